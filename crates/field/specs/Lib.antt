@@ -1,0 +1,2 @@
+-- What a reader of the crate `field` must believe.
+pub mod Field
