@@ -1,0 +1,128 @@
+-- Single-error correction of a run's lines: the search for the place, power by power; one line corrected; lines side by side.
+use mathlib.Core.Path.{_≡_, refl, sym, ap, _∙_}
+use mathlib.Core.List.{List}
+use mathlib.Core.Logic.{_≢_, ⊎-elim}
+use Prim.Native.Nat.{ℕ, _+_, _*_, _≤_, _<_}
+use native.Mathlib.Numerals.{add-one}
+use native.Mathlib.Decide.{ℕ-discrete, decLt}
+use native.Mathlib.Omega.{arith}
+use lib.ListN.{length, getD, set, length-set}
+use lib.Seq.{getD-set-same, getD-set-other}
+use Rattle.field.specs.Field.{add, xtime, mul, pow, Primitive}
+use Rattle.field.proofs.Multiplication.{mul-one-l, xtime-mul-l}
+use Rattle.field.proofs.Power.{pow-zero, pow-suc}
+use Rattle.line.specs.declared.Run.{Run}
+use Rattle.line.specs.Line.{syndrome0, syndrome1, ErrorAt, corrected}
+use Rattle.line.specs.Run.{Inside, Off, lineAt, Corrected}
+use Rattle.line.specs.Block.{part, Syndromes, AllZero}
+use Rattle.line.proofs.Error.{corrected-first-zero, corrected-at, corrected-none, corrected-off}
+use Rattle.line.proofs.Geometry.{stride-below}
+use Rattle.line.proofs.Parts.{Changed, line-part}
+
+-- ---- the search
+
+pub power-first : (r v : ℕ) → v < 256 → v ≡ mul r (pow r 0) v
+power-first r v h = sym (ap (λ (x : ℕ). mul r x v) (pow-zero r) ∙ mul-one-l r v h)
+
+pub power-next : (r v j p : ℕ) → r < 256 → p ≡ mul r (pow r j) v → xtime r p ≡ mul r (pow r (j + 1)) v
+power-next r v j p fits e =
+    ap (xtime r) e ∙ xtime-mul-l r (pow r j) v fits
+    ∙ ap (λ (x : ℕ). mul r x v) (sym (pow-suc r j) ∙ ap (pow r) (sym (add-one j)))
+
+-- ---- what becomes of each line, and where
+
+unfoldable pub Below : ℕ → ℕ → Type 0
+Below n i = i < n
+
+unfoldable pub Mended : ℕ → ℕ → (ℕ → ℕ) → (ℕ → ℕ) → Type 0
+Mended r n c d = (i : ℕ) → i < n → d i ≡ corrected r n c i
+
+module _ {r : ℕ} {run : Run} {before after : List ℕ} where
+  pub corrected-changed : Corrected r run before after → Changed Below (Mended r) run before after
+  unfolding Below Mended
+  corrected-changed s = record { size = s .size; kept = s .kept; lines = s .lines }
+
+  pub changed-corrected : Changed Below (Mended r) run before after → Corrected r run before after
+  unfolding Below Mended
+  changed-corrected c = record { size = c .size; kept = c .kept; lines = c .lines }
+
+-- lines whose syndromes are 0
+pub corrected-zeros :
+    {r : ℕ} {run : Run} {s s0 s1 : List ℕ} → Syndromes r run s s0 s1 → AllZero (run .width) s0 s1 → Corrected r run s s
+corrected-zeros sy z =
+    record {
+      size = refl;
+      kept = λ p o. refl;
+      lines = λ t h i l. sym (corrected-first-zero _ _ _ i (sym (sy .first t h) ∙ z .first t h));
+    }
+
+-- ---- one line
+
+place-distinct : (first stride i j t : ℕ) → 0 < stride → i ≢ j → first + stride * i + t ≢ first + stride * j + t
+place-distinct first stride i j t some ne e =
+    elim (decLt i j) [
+      | yes l ↦ omega (arith, stride-below stride i j l)
+      | no l ↦ omega (arith, stride-below stride j i (omega arith))
+    ]
+
+line-single : (s : List ℕ) (run : Run) (t k : ℕ) → k < 1 → lineAt s (part run t 1) k ≡ lineAt s run t
+line-single s run t k h = line-part s run t 1 k ∙ ap (lineAt s run) (omega arith)
+
+-- off the only line of a part is off its byte
+off-single : (run : Run) (t i p : ℕ) → Off (part run t 1) i p → p ≢ run .first + run .stride * i + t
+unfolding Off part
+off-single run t i p o e =
+    ⊎-elim (λ (x : p < run .first + t + run .stride * i). omega arith)
+    (λ (x : run .first + t + run .stride * i + 1 ≤ p). omega arith) o
+
+module _ (r : ℕ) (run : Run) (t : ℕ) (before : List ℕ) where
+  -- a line that is what it was corrected to
+  single : (after : List ℕ) → length after ≡ length before →
+      ((p : ℕ) → ((i : ℕ) → i < run .len → Off (part run t 1) i p) → getD after p 0 ≡ getD before p 0) →
+      ((i : ℕ) → i < run .len → lineAt after run t i ≡ corrected r (run .len) (lineAt before run t) i) →
+      Corrected r (part run t 1) before after
+  unfolding part
+  single after size kept line =
+      record {
+        size = size;
+        kept = kept;
+        lines =
+            λ k h i l. ap (λ (c : ℕ → ℕ). c i) (line-single after run t k h) ∙ line i l
+            ∙ sym (ap (λ (c : ℕ → ℕ). corrected r (run .len) c i) (line-single before run t k h));
+      }
+
+  module _ (v0 v1 : ℕ) (e0 : v0 ≡ syndrome0 (lineAt before run t) (run .len))
+      (e1 : v1 ≡ syndrome1 r (lineAt before run t) (run .len)) where
+    pub corrected-nowhere : ((j : ℕ) → ErrorAt r v0 v1 (run .len) j → ⊥) → Corrected r (part run t 1) before before
+    corrected-nowhere never =
+        single before refl (λ p o. refl)
+        (λ i l. sym (corrected-none r (run .len) (lineAt before run t) (λ j. rw (← e0, ← e1) (never j)) i l))
+
+    pub corrected-found :
+        (j : ℕ) → Primitive r → Inside run (length before) → t < run .width → ((p : ℕ) → getD before p 0 < 256) →
+        ErrorAt r v0 v1 (run .len) j →
+        Corrected r (part run t 1) before
+        (set before (run .first + run .stride * j + t) (add (getD before (run .first + run .stride * j + t) 0) v0))
+    unfolding lineAt
+    corrected-found j prim h l bytes found =
+        single _ (length-set before at byte)
+        (λ p o. getD-set-other before at p byte 0 (off-single run t j p (o j (found .below))))
+        (λ i m. elim (ℕ-discrete i j) [
+          | yes q ↦
+              rw q (getD-set-same before at byte 0 (omega (arith, h .fits j (found .below))) ∙ ap (add (getD before at 0)) e0
+              ∙ sym (corrected-at r (run .len) (lineAt before run t) j at-line))
+          | no q ↦
+              getD-set-other before at _ byte 0
+              (place-distinct (run .first) (run .stride) i j t (omega (arith, h .apart)) q)
+              ∙ sym (corrected-off r (run .len) (lineAt before run t) j prim (h .few-places) (λ k n. bytes _) at-line i m q)
+        ])
+      where
+        at : ℕ
+        at = run .first + run .stride * j + t
+
+        byte : ℕ
+        byte = add (getD before (run .first + run .stride * j + t) 0) v0
+
+        at-line :
+            ErrorAt r (syndrome0 (lineAt before run t) (run .len)) (syndrome1 r (lineAt before run t) (run .len)) (run .len) j
+        at-line = rw (← e0, ← e1) found

@@ -1,0 +1,23 @@
+-- Why the crate `line` meets its contracts. First the laws of lines, over the reduction byte and the length, which crates above use.
+-- Pick: a pick by a test of equality. Syndrome: linearity, Horner's rule, one place changed. Codeword: linearity and weight.
+-- Erasure: the completed line. Geometry: where the bytes of a run stand. Runs: completed lines in a list of bytes. Error: the corrected line.
+pub mod Pick
+pub mod Syndrome
+pub mod Codeword
+pub mod Erasure
+pub mod Geometry
+pub mod Runs
+pub mod Error
+-- Then what the functions' proofs share. Decision and Outcome: answers. Updated and Strips: lists written byte by byte. Tails: Horner's
+-- rule for lines side by side. Zeros: all syndromes 0. Rows: the inverted array. Parts: a run block by block. Solving and Correction:
+-- a block's erasures and errors.
+mod Decision
+mod Outcome
+mod Updated
+mod Strips
+mod Tails
+mod Zeros
+mod Rows
+mod Parts
+mod Solving
+mod Correction

@@ -1,0 +1,179 @@
+-- A run block by block: what is done to the first lines, and then to the next ones, is done to both together. Said once for any change
+-- of the lines: P is what becomes of each line, and Q are the places that may change.
+use mathlib.Core.Path.{_≡_, refl, sym, ap, subst, fun-ext, _∙_}
+use mathlib.Core.List.{List}
+use mathlib.Core.Logic.{_⊎_, inl, inr, ⊎-elim}
+use Prim.Native.Nat.{ℕ, _+_, _-_, _*_, _≤_, _<_}
+use native.Mathlib.Decide.{decLt}
+use native.Mathlib.Omega.{arith}
+use lib.ListN.{length, getD}
+use Rattle.line.specs.declared.Run.{Run}
+use Rattle.line.specs.Line.{Codeword}
+use Rattle.line.specs.Run.{Inside, Off, lineAt}
+use Rattle.line.specs.Block.{part, front, Block}
+use Rattle.line.proofs.Geometry.{stride-below}
+
+-- ---- parts of a run
+
+pub part-inside : (run : Run) (n a w : ℕ) → Inside run n → a + w ≤ run .width → Inside (part run a w) n
+unfolding part
+part-inside run n a w h within =
+    record {
+      some-place = h .some-place;
+      few-places = h .few-places;
+      apart = omega (arith, h .apart);
+      fits = λ i l. omega (arith, h .fits i l);
+    }
+
+pub block-inside : (run next : Run) (n a : ℕ) → Inside run n → Block run a next → Inside next n
+block-inside run next n a h b =
+    subst (λ (x : Run). Inside x n) (sym (b .lines)) (part-inside run n a (next .width) h (b .within))
+
+pub block-place : (run next : Run) (a k : ℕ) → Block run a next → k < run .len → k < next .len
+unfolding part
+block-place run next a k b h = subst (λ (x : Run). k < x .len) (sym (b .lines)) h
+
+-- what lies inside a list lies inside one of the same length
+pub inside-size : {run : Run} {n m : ℕ} → Inside run n → m ≡ n → Inside run m
+inside-size {run} h e = subst (Inside run) (sym e) h
+
+pub line-part : (s : List ℕ) (run : Run) (a w t : ℕ) → lineAt s (part run a w) t ≡ lineAt s run (a + t)
+unfolding lineAt part
+line-part s run a w t = fun-ext (λ i. ap (λ (p : ℕ). getD s p 0) (omega arith))
+
+-- a line is no line of a part, at any place
+pub off-part :
+    (run : Run) (a w : ℕ) → a + w ≤ run .stride → (i k t : ℕ) → t < run .stride → (t < a) ⊎ (a + w ≤ t) →
+    Off (part run a w) k (run .first + run .stride * i + t)
+unfolding Off part
+off-part run a w apart i k t h o =
+    elim (decLt i k) [
+      | yes l ↦ inl (omega (arith, stride-below (run .stride) i k l))
+      | no l ↦
+          elim (decLt k i) [
+            | yes m ↦ inr (omega (arith, stride-below (run .stride) k i m))
+            | no m ↦
+                let same : run .stride * i ≡ run .stride * k = ap (λ (x : ℕ). run .stride * x) (omega arith) in
+                ⊎-elim (λ (x : t < a). inl (omega arith)) (λ (x : a + w ≤ t). inr (omega arith)) o
+          ]
+    ]
+
+off-front : (run : Run) (w i p : ℕ) → Off (part run 0 w) i p → Off (front run w) i p
+unfolding Off part front
+off-front run w i p o =
+    ⊎-elim (λ (x : p < run .first + 0 + run .stride * i). inl (omega arith))
+    (λ (x : run .first + 0 + run .stride * i + w ≤ p). inr (omega arith)) o
+
+-- off the first a + w lines is off both parts
+off-first : (run : Run) (a w i p : ℕ) → Off (front run (a + w)) i p → Off (front run a) i p
+unfolding Off front
+off-first run a w i p o =
+    ⊎-elim (λ (x : p < run .first + run .stride * i). inl x)
+    (λ (x : run .first + run .stride * i + (a + w) ≤ p). inr (omega arith)) o
+
+off-next : (run : Run) (a w i p : ℕ) → Off (front run (a + w)) i p → Off (part run a w) i p
+unfolding Off front part
+off-next run a w i p o =
+    ⊎-elim (λ (x : p < run .first + run .stride * i). inl (omega arith))
+    (λ (x : run .first + run .stride * i + (a + w) ≤ p). inr (omega arith)) o
+
+-- ---- changes
+
+pub record Changed (Q : ℕ → ℕ → Type 0) (P : ℕ → (ℕ → ℕ) → (ℕ → ℕ) → Type 0) (run : Run) (before after : List ℕ) : Type 0 where
+  pub size : length after ≡ length before
+  pub kept : (p : ℕ) → ((i : ℕ) → Q (run .len) i → Off run i p) → getD after p 0 ≡ getD before p 0
+  pub lines : (t : ℕ) → t < run .width → P (run .len) (lineAt before run t) (lineAt after run t)
+
+module _ (Q : ℕ → ℕ → Type 0) (P : ℕ → (ℕ → ℕ) → (ℕ → ℕ) → Type 0) (run : Run) where
+  pub changed-none : (l : List ℕ) → Changed Q P (front run 0) l l
+  unfolding front
+  changed-none l = record { size = refl; kept = λ p o. refl; lines = λ t h. absurd (omega arith) }
+
+  pub changed-all : (before after : List ℕ) (w : ℕ) → w ≡ run .width → Changed Q P (front run w) before after → Changed Q P run before after
+  unfolding front
+  changed-all before after w e c = subst (λ (x : ℕ). Changed Q P (front run x) before after) e c
+
+  -- the lines after the first ones are not changed
+  pub line-later :
+      (a : ℕ) {before mid : List ℕ} → Changed Q P (front run a) before mid → a ≤ run .stride → (t : ℕ) → a ≤ t →
+      t < run .stride → lineAt mid run t ≡ lineAt before run t
+  unfolding lineAt front
+  line-later a one apart t h l =
+      fun-ext (λ i. one .kept _ (λ k q. off-front run a k _ (off-part run 0 a (omega arith) i k t l (inr (omega arith)))))
+
+  module _ (a w : ℕ) (within : a + w ≤ run .width) (apart : run .width ≤ run .stride) {before mid after : List ℕ}
+      (one : Changed Q P (front run a) before mid) (two : Changed Q P (part run a w) mid after) where
+    -- nor are the first lines, by the second step
+    line-first : (t : ℕ) → t < a → lineAt after run t ≡ lineAt mid run t
+    unfolding lineAt part
+    line-first t h =
+        fun-ext (λ i. two .kept _ (λ k q. off-part run a w (omega arith) i k t (omega arith) (inl h)))
+
+    lines-first : (t : ℕ) → t < a → P (run .len) (lineAt before run t) (lineAt after run t)
+    unfolding front lineAt
+    lines-first t h = subst (P (run .len) (lineAt before run t)) (sym (line-first t h)) (one .lines t h)
+
+    lines-next : (t : ℕ) → t < w → P (run .len) (lineAt before run (a + t)) (lineAt after run (a + t))
+    unfolding part
+    lines-next t h =
+        subst (λ (c : ℕ → ℕ). P (run .len) c (lineAt after run (a + t)))
+        (line-part mid run a w t ∙ line-later a one (omega arith) (a + t) (omega arith) (omega arith))
+        (subst (P (run .len) (lineAt mid (part run a w) t)) (line-part after run a w t) (two .lines t h))
+
+    pub changed-more : Changed Q P (front run (a + w)) before after
+    unfolding front part lineAt
+    changed-more =
+        record {
+          size = two .size ∙ one .size;
+          kept =
+              λ p o. two .kept p (λ i q. off-next run a w i p (o i q)) ∙ one .kept p (λ i q. off-first run a w i p (o i q));
+          lines =
+              λ t h. elim (decLt t a) [
+                | yes l ↦ lines-first t l
+                | no l ↦
+                    subst (λ (x : ℕ). P (run .len) (lineAt before run x) (lineAt after run x)) (omega arith)
+                    (lines-next (t - a) (omega arith))
+              ];
+        }
+
+  pub changed-next :
+      {n a : ℕ} {next : Run} {before mid after : List ℕ} → Inside run n → Block run a next →
+      Changed Q P (front run a) before mid → Changed Q P next mid after →
+      Changed Q P (front run (a + next .width)) before after
+  changed-next {n} {a} {next} {before} {mid} {after} h b one two =
+      changed-more a (next .width) (b .within) (h .apart) one
+      (subst (λ (x : Run). Changed Q P x mid after) (b .lines) two)
+
+-- ---- codewords
+
+module _ (r : ℕ) (s : List ℕ) {run next : Run} {a : ℕ} (b : Block run a next) where
+  block-line : (t : ℕ) → Codeword r (lineAt s run (a + t)) (run .len) → Codeword r (lineAt s next t) (next .len)
+  unfolding part
+  block-line t h =
+      subst (λ (x : Run). Codeword r (lineAt s x t) (x .len)) (sym (b .lines))
+      (subst (λ (c : ℕ → ℕ). Codeword r c (run .len)) (sym (line-part s run a (next .width) t)) h)
+
+  line-block : (t : ℕ) → Codeword r (lineAt s next t) (next .len) → Codeword r (lineAt s run (a + t)) (run .len)
+  unfolding part
+  line-block t h =
+      subst (λ (c : ℕ → ℕ). Codeword r c (run .len)) (line-part s run a (next .width) t)
+      (subst (λ (x : Run). Codeword r (lineAt s x t) (x .len)) (b .lines) h)
+
+  -- the lines of a block are lines of the run
+  pub codewords-block :
+      ((t : ℕ) → t < run .width → Codeword r (lineAt s run t) (run .len)) → (t : ℕ) → t < next .width →
+      Codeword r (lineAt s next t) (next .len)
+  codewords-block h t l = block-line t (h (a + t) (omega (arith, b .within)))
+
+  -- the first lines and the next block's
+  pub codewords-more :
+      ((t : ℕ) → t < a → Codeword r (lineAt s run t) (run .len)) →
+      ((t : ℕ) → t < next .width → Codeword r (lineAt s next t) (next .len)) → (t : ℕ) → t < a + next .width →
+      Codeword r (lineAt s run t) (run .len)
+  codewords-more h g t l =
+      elim (decLt t a) [
+        | yes m ↦ h t m
+        | no m ↦
+            subst (λ (x : ℕ). Codeword r (lineAt s run x) (run .len)) (omega arith)
+            (line-block (t - a) (g (t - a) (omega arith)))
+      ]

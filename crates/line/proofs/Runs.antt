@@ -1,0 +1,65 @@
+-- Runs: what `Solved` says of the list is that each line of the run is completed and every other byte kept.
+use mathlib.Core.Path.{_≡_, sym, ap, _∙_}
+use mathlib.Core.List.{List}
+use mathlib.Core.Logic.{_≢_}
+use Prim.Native.Nat.{ℕ, _+_, _*_, _≤_, _<_}
+use native.Mathlib.Decide.{ℕ-discrete}
+use native.Mathlib.Omega.{arith}
+use lib.ListN.{length, getD}
+use Rattle.field.specs.Field.{add, Primitive}
+use Rattle.line.specs.declared.Run.{Run}
+use Rattle.line.specs.Line.{Codeword, syndrome0, erased, completed}
+use Rattle.line.specs.Run.{lineAt, Inside, Solved}
+use Rattle.line.proofs.Codeword.{codeword-cong}
+use Rattle.line.proofs.Geometry.{off-of-ne, off-place}
+use Rattle.line.proofs.Erasure.{completed-later, completed-earlier, completed-off, completed-codeword, completed-forced}
+
+-- ---- what `Solved` says
+
+-- a byte that stands at neither erasure is kept
+pub solved-kept : (r : ℕ) (run : Run) (j k : ℕ) (before after : List ℕ) → Solved r run j k before after → (p : ℕ)
+    → ((t : ℕ) → t < run .width → p ≢ run .first + run .stride * j + t) → ((t : ℕ) → t < run .width → p ≢ run .first + run .stride * k + t)
+    → getD after p 0 ≡ getD before p 0
+solved-kept r run j k before after s p nj nk = s .kept p (off-of-ne run j p nj) (off-of-ne run k p nk)
+
+-- each line is completed
+pub solved-lines : (r : ℕ) (run : Run) (j k : ℕ) (before after : List ℕ) → Solved r run j k before after → run .width ≤ run .stride → j ≤ k
+    → (t : ℕ) → t < run .width → (i : ℕ) → lineAt after run t i ≡ completed r (run .len) j k (lineAt before run t) i
+solved-lines r run j k before after s apart le t l i =
+    elim (ℕ-discrete i k) [
+      | yes e ↦ ap (lineAt after run t) e ∙ later ∙ ap (completed r (run .len) j k (lineAt before run t)) (sym e)
+      | no nk ↦
+          elim (ℕ-discrete i j) [
+            | yes e ↦
+                ap (lineAt after run t) e
+                ∙ s .earlier (omega arith) t l
+                ∙ ap (add (syndrome0 (erased j k (lineAt before run t)) (run .len))) (s .later t l)
+                ∙ sym (completed-earlier r (run .len) j k (lineAt before run t) (λ f. nk (e ∙ f)))
+                ∙ ap (completed r (run .len) j k (lineAt before run t)) (sym e)
+            | no nj ↦ kept nj nk ∙ sym (completed-off r (run .len) j k (lineAt before run t) i nj nk)
+          ]
+    ]
+  where
+    later : lineAt after run t k ≡ completed r (run .len) j k (lineAt before run t) k
+    later = s .later t l ∙ sym (completed-later r (run .len) j k (lineAt before run t))
+
+    kept : i ≢ j → i ≢ k → lineAt after run t i ≡ lineAt before run t i
+    kept nj nk = unfold lineAt in s .kept _ (off-place run i j t apart (omega arith) nj) (off-place run i k t apart (omega arith) nk)
+
+-- each line is a codeword where two places were erased
+pub solved-codewords : (r : ℕ) (run : Run) (j k : ℕ) (before after : List ℕ) → Primitive r → Inside run (length before) → Solved r run j k before after
+    → j < k → k < run .len → (t : ℕ) → t < run .width → Codeword r (lineAt after run t) (run .len)
+solved-codewords r run j k before after p inside s less l t m =
+    codeword-cong r (completed r (run .len) j k (lineAt before run t)) (lineAt after run t) (run .len)
+    (λ i q. sym (solved-lines r run j k before after s (inside .apart) (omega arith) t m i))
+    (completed-codeword r (run .len) j k (lineAt before run t) p (inside .few-places) less l)
+
+-- each line is what every codeword is that agrees with it off the erasures
+pub solved-forced : (r : ℕ) (run : Run) (j k : ℕ) (before after : List ℕ) → Primitive r → Inside run (length before) → Solved r run j k before after
+    → j ≤ k → k < run .len → (t : ℕ) → t < run .width → ((i : ℕ) → i < run .len → lineAt before run t i < 256)
+    → (x : ℕ → ℕ) → ((i : ℕ) → i < run .len → x i < 256) → Codeword r x (run .len)
+    → ((i : ℕ) → i < run .len → i ≢ j → i ≢ k → x i ≡ lineAt before run t i)
+    → (i : ℕ) → i < run .len → lineAt after run t i ≡ x i
+solved-forced r run j k before after p inside s le l t m bytes x bx w h i q =
+    solved-lines r run j k before after s (inside .apart) le t m i
+    ∙ sym (completed-forced r (run .len) j k (lineAt before run t) x p (inside .few-places) bytes bx le l w h i q)

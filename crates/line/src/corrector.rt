@@ -1,0 +1,91 @@
+// Single-error correction of blocks of neighbouring lines, from their syndromes.
+use crate::Place;
+use crate::Run;
+use crate::block;
+ghost use mathlib.Core.Path.{_≡_};
+ghost use Prim.Native.Nat.{ℕ, _<_, _≤_};
+ghost use lib.ListN.{length, getD};
+ghost use Rattle.field.specs.Field.{Primitive};
+ghost use Rattle.line.specs.Line.{syndrome0, syndrome1};
+ghost use Rattle.line.specs.Run.{Inside, Corrected, PlaceOutcome, lineAt};
+ghost use Rattle.line.specs.Block.{Syndromes, part};
+
+// The place of a single error on a line of length n with the syndromes v0 and v1.
+pub(crate) fn error_place(reduction: u8, v0: u8, v1: u8, n: usize) -> Place
+    ensures { λ r. ⌜ PlaceOutcome reduction v0 v1 n r ⌝ }
+{
+    if v0 == 0 {
+        return Place::Nowhere;
+    }
+    if v1 == 0 {
+        return Place::Nowhere;
+    }
+    search(reduction, v0, v1, n)
+}
+
+// The first place below n at which v0, multiplied by the power of α, is v1.
+fn search(reduction: u8, v0: u8, v1: u8, n: usize) -> Place
+    requires { ⌜ (v0 ≡ 0 → ⊥) × (v1 ≡ 0 → ⊥) ⌝ }
+    ensures { λ r. ⌜ PlaceOutcome reduction v0 v1 n r ⌝ }
+{
+    let mut p = v0;
+    let mut j = 0;
+    while j < n {
+        if p == v1 {
+            return Place::At(j);
+        }
+        p = field::xtime(reduction, p);
+        j += 1;
+    }
+    Place::Nowhere
+}
+
+// Corrects every line of the run, block by block.
+pub(crate) fn correct_blocks(s: &mut [u8], reduction: u8, run: Run)
+    requires { ⌜ (Primitive reduction) × (Inside run (length (now s))) ⌝ }
+    ensures { λ r. ⌜ Corrected reduction run (now (s .entry)) (now (s .exit)) ⌝ }
+{
+    let width = run.width;
+    let mut done = 0;
+    while done < width {
+        let next = block::next_block(run, done);
+        correct_block(s, reduction, next);
+        done += next.width;
+    }
+}
+
+fn correct_block(s: &mut [u8], reduction: u8, run: Run)
+    requires { ⌜ (Primitive reduction) × (Inside run (length (now s))) × (run .width ≤ 512) ⌝ }
+    ensures { λ r. ⌜ Corrected reduction run (now (s .entry)) (now (s .exit)) ⌝ }
+{
+    let mut s0 = [0u8; 512];
+    let mut s1 = [0u8; 512];
+    block::syndromes(s, &mut s0, &mut s1, reduction, run);
+    if !block::all_zero(&s0, &s1, run.width) {
+        correct_lines(s, &s0, &s1, reduction, run);
+    }
+}
+
+fn correct_lines(s: &mut [u8], s0: &[u8; 512], s1: &[u8; 512], reduction: u8, run: Run)
+    requires { ⌜ (Primitive reduction) × (Inside run (length (now s))) × (run .width ≤ 512) × (Syndromes reduction run (now s) (now s0) (now s1)) ⌝ }
+    ensures { λ r. ⌜ Corrected reduction run (now (s .entry)) (now (s .exit)) ⌝ }
+{
+    let width = run.width;
+    let mut t = 0;
+    while t < width {
+        correct_line(s, reduction, run, t, s0[t], s1[t]);
+        t += 1;
+    }
+}
+
+fn correct_line(s: &mut [u8], reduction: u8, run: Run, t: usize, v0: u8, v1: u8)
+    requires { ⌜ (Primitive reduction) × (Inside run (length (now s))) × (t < run .width) × (v0 ≡ syndrome0 (lineAt (now s) run t) (run .len)) × (v1 ≡ syndrome1 reduction (lineAt (now s) run t) (run .len)) ⌝ }
+    ensures { λ r. ⌜ Corrected reduction (part run t 1) (now (s .entry)) (now (s .exit)) ⌝ }
+{
+    let place = error_place(reduction, v0, v1, run.len);
+    let Place::At(j) = place else {
+        return;
+    };
+    let p = run.first + run.stride * j + t;
+    s[p] = s[p] ^ v0;
+}
