@@ -1,0 +1,88 @@
+-- Byte geometry: rows, planes and cells one after the other, and the sizes of a valid shape.
+use mathlib.Core.Path.{_≡_}
+use Prim.Native.Nat.{ℕ, _+_, _*_, _-_, _≤_, _<_}
+use native.Mathlib.Nat.{suc-mul, mul-le-mul-right, mul-le-mul, mul-assoc, mul-comm, mul-left-comm, mul-add, add-assoc, add-comm, add-left-comm}
+use native.Mathlib.Omega.{arith}
+use Rattle.cube.specs.declared.Shape.{Shape}
+use Rattle.cube.specs.Shapes.{Valid, cells, capacity}
+use Rattle.cube.specs.Plane.{spot, planeBytes, partBytes}
+
+-- stretch b of equal stretches ends where the next begins
+pub stretch-end : (b n s : ℕ) → b < n → b * s + s ≤ n * s
+stretch-end b n s l = omega (arith, suc-mul b s, mul-le-mul-right s l)
+
+-- the sizes of rows and planes fit a word
+pub record Small (sh : Shape) : Type 0 where
+  pub row : sh .l1 * sh .w ≤ 261120
+  pub plane-cells : sh .l1 * sh .l2 ≤ 65025
+  pub plane : planeBytes sh ≤ 66585600
+  pub data-row : (sh .l1 - 2) * sh .w ≤ 261120
+  pub data-plane-cells : (sh .l1 - 2) * (sh .l2 - 2) ≤ 65025
+  pub data-plane : partBytes sh ≤ 66585600
+
+pub small : (sh : Shape) → Valid sh → Small sh
+small sh v =
+    let a : sh .l1 - 2 ≤ 255 = omega arith in
+    let b : sh .l2 - 2 ≤ 255 = omega arith in
+    record {
+      row = mul-le-mul (v .l1-high) (v .w-high);
+      plane-cells = mul-le-mul (v .l1-high) (v .l2-high);
+      plane = mul-le-mul (mul-le-mul (v .l1-high) (v .l2-high)) (v .w-high);
+      data-row = mul-le-mul a (v .w-high);
+      data-plane-cells = mul-le-mul a b;
+      data-plane = mul-le-mul (mul-le-mul a b) (v .w-high);
+    }
+
+-- a plane is n rows of m cells
+pub rows-in-plane : (m n w : ℕ) → n * (m * w) ≡ m * n * w
+rows-in-plane m n w = simp (mul-assoc, mul-left-comm)
+
+-- the data rows of a plane fit their rows, the plane's data and the plane
+pub record RowsFit (sh : Shape) : Type 0 where
+  pub width : (sh .l1 - 2) * sh .w ≤ sh .l1 * sh .w
+  pub part : (sh .l2 - 2) * ((sh .l1 - 2) * sh .w) ≤ partBytes sh
+  pub plane : (sh .l2 - 2) * (sh .l1 * sh .w) ≤ planeBytes sh
+
+pub rows-fit : (sh : Shape) → RowsFit sh
+rows-fit sh =
+    let cells : sh .l1 - 2 ≤ sh .l1 = omega arith in
+    let rows : sh .l2 - 2 ≤ sh .l2 = omega arith in
+    record {
+      width = mul-le-mul-right (sh .w) cells;
+      part = omega (arith, rows-in-plane (sh .l1 - 2) (sh .l2 - 2) (sh .w));
+      plane = omega (arith, rows-in-plane (sh .l1) (sh .l2) (sh .w), mul-le-mul-right (sh .l1 * sh .w) rows);
+    }
+
+-- n planes of l times m cells
+pub planes-in-cube : (l m n w : ℕ) → n * (l * m * w) ≡ w * (l * m * n)
+planes-in-cube l m n w = simp (mul-assoc, mul-comm, mul-left-comm)
+
+-- byte t of cell (a, b, c), where rows have m cells and planes n rows
+pub cell-byte : (m n w a b c t : ℕ) → (a + m * (b + n * c)) * w + t ≡ c * (m * n * w) + spot m w a b t
+unfolding spot
+cell-byte m n w a b c t = simp (mul-assoc, mul-comm, mul-left-comm, mul-add, add-assoc, add-comm, add-left-comm)
+
+-- a cell's bytes lie inside its row, and a row inside its plane
+pub spot-row : (m w a b t : ℕ) → a < m → t < w → spot m w a b t < b * (m * w) + m * w
+unfolding spot
+spot-row m w a b t l k = omega (arith, stretch-end a m w l)
+
+pub spot-plane : (m n w a b t : ℕ) → a < m → b < n → t < w → spot m w a b t < m * n * w
+spot-plane m n w a b t l k h = omega (arith, spot-row m w a b t l h, stretch-end b n (m * w) k, rows-in-plane m n w)
+
+-- a cube is its l3 planes
+pub planes-fill : (sh : Shape) → sh .l3 * planeBytes sh ≡ sh .w * cells sh
+unfolding cells
+planes-fill sh = planes-in-cube (sh .l1) (sh .l2) (sh .l3) (sh .w)
+
+-- a plane that holds data lies inside the cube, and its data inside the data string
+pub plane-inside : (sh : Shape) (c : ℕ) → c < sh .l3 - 2 → c * planeBytes sh + planeBytes sh ≤ sh .w * cells sh
+plane-inside sh c l =
+    let less : c < sh .l3 = omega arith in
+    omega (arith, stretch-end c (sh .l3) (planeBytes sh) less, planes-fill sh)
+
+pub data-plane-inside : (sh : Shape) (c : ℕ) → c < sh .l3 - 2 → c * partBytes sh + partBytes sh ≤ capacity sh
+unfolding capacity
+data-plane-inside sh c l =
+    omega
+    (arith, stretch-end c (sh .l3 - 2) (partBytes sh) l, planes-in-cube (sh .l1 - 2) (sh .l2 - 2) (sh .l3 - 2) (sh .w))

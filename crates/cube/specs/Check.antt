@@ -1,0 +1,22 @@
+-- What the check of a cube decides, axis by axis.
+use mathlib.Core.Path.{_≡_}
+use mathlib.Core.Bool.{Bool, true}
+use mathlib.Core.List.{List}
+use Prim.Native.Nat.{ℕ, _<_}
+use Rattle.cube.specs.declared.Shape.{Shape}
+use Rattle.cube.specs.declared.Line.{Line}
+use Rattle.cube.specs.declared.LineAnswer.the-variants.{Found}
+use Rattle.cube.specs.Shapes.{lineOf}
+use Rattle.cube.specs.Cube.{lineIn}
+use Rattle.line.specs.Line.{Codeword}
+
+-- the answer is true exactly where P holds
+pub record Decides (P : Type 0) (answer : Bool) : Type 0 where
+  pub yes-when : P → answer ≡ true
+  pub yes-then : answer ≡ true → P
+
+-- the first n lines of an axis are right in every layer
+pub record LinesRight (r : ℕ) (sh : Shape) (axis n : ℕ) (xs : List ℕ) : Type 0 where
+  pub lines :
+      (m : ℕ) (l : Line) → m < n → lineOf sh axis m ≡ Found l →
+      (w : ℕ) → w < sh .w → Codeword r (lineIn sh xs w (l .first) (l .stride)) (l .len)

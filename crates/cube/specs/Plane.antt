@@ -1,0 +1,59 @@
+-- What the encoder's and the extractor's own functions leave in lent memory. The public calls' contracts say nothing of these.
+use mathlib.Core.Path.{_≡_}
+use mathlib.Core.List.{List}
+use Prim.Native.Nat.{ℕ, _+_, _-_, _*_, _≤_, _<_}
+use lib.ListN.{getD}
+use Rattle.cube.specs.declared.Shape.{Shape}
+use Rattle.line.specs.Line.{Codeword, completed}
+
+-- `after` is `before` with n bytes of src from `from` on written from `to` on.
+pub record Copied (src before after : List ℕ) (from to n : ℕ) : Type 0 where
+  pub copied : (i : ℕ) → i < n → getD after (to + i) 0 ≡ getD src (from + i) 0
+  pub below : (p : ℕ) → p < to → getD after p 0 ≡ getD before p 0
+  pub above : (p : ℕ) → to + n ≤ p → getD after p 0 ≡ getD before p 0
+
+-- The rows of src, `from` bytes apart, stand in dst, `to` bytes apart.
+pub record RowsCopied (src dst : List ℕ) (rows width from to : ℕ) : Type 0 where
+  pub copied : (b i : ℕ) → b < rows → i < width → getD dst (b * to + i) 0 ≡ getD src (b * from + i) 0
+
+-- the bytes of a plane, and those of its data
+abbrev pub planeBytes : Shape → ℕ
+planeBytes sh = sh .l1 * sh .l2 * sh .w
+
+abbrev pub partBytes : Shape → ℕ
+partBytes sh = (sh .l1 - 2) * (sh .l2 - 2) * sh .w
+
+-- byte t of cell a in row b, where rows have m cells of w bytes
+unfoldable pub spot : ℕ → ℕ → ℕ → ℕ → ℕ → ℕ
+spot m w a b t = b * (m * w) + (a * w + t)
+
+-- `after` is `before` with the two last cells of each row, its parity, written. A row has m cells of w bytes.
+pub record RowsCompleted (r m w rows : ℕ) (before after : List ℕ) : Type 0 where
+  pub lines :
+      (a b t : ℕ) → a < m → b < rows → t < w →
+      getD after (spot m w a b t) 0 ≡ completed r m (m - 2) (m - 1) (λ i. getD before (spot m w i b t) 0) a
+  pub rest : (p : ℕ) → rows * (m * w) ≤ p → getD after p 0 ≡ getD before p 0
+
+-- The plane of bytes p has the data bytes d, and each row and each column of it is a codeword in each layer.
+pub record PlaneCode (r : ℕ) (sh : Shape) (d p : ℕ → ℕ) : Type 0 where
+  pub rows :
+      (b t : ℕ) → b < sh .l2 → t < sh .w → Codeword r (λ a. p (spot (sh .l1) (sh .w) a b t)) (sh .l1)
+  pub columns :
+      (a t : ℕ) → a < sh .l1 → t < sh .w → Codeword r (λ b. p (spot (sh .l1) (sh .w) a b t)) (sh .l2)
+  pub holds :
+      (a b t : ℕ) → a < sh .l1 - 2 → b < sh .l2 - 2 → t < sh .w →
+      p (spot (sh .l1) (sh .w) a b t) ≡ d (spot (sh .l1 - 2) (sh .w) a b t)
+
+-- The first planes of a cube, coded.
+pub record PlanesCoded (r : ℕ) (sh : Shape) (planes : ℕ) (ds xs : List ℕ) : Type 0 where
+  pub coded :
+      (c : ℕ) → c < planes →
+      PlaneCode r sh (λ p. getD ds (c * partBytes sh + p) 0)
+      (λ p. getD xs (c * planeBytes sh + p) 0)
+
+-- The data cells of a cube's first planes hold the data string.
+pub record PlanesHeld (sh : Shape) (planes : ℕ) (xs ds : List ℕ) : Type 0 where
+  pub bytes :
+      (a b c t : ℕ) → a < sh .l1 - 2 → b < sh .l2 - 2 → c < planes → t < sh .w →
+      getD ds (c * partBytes sh + spot (sh .l1 - 2) (sh .w) a b t) 0 ≡
+      getD xs (c * planeBytes sh + spot (sh .l1) (sh .w) a b t) 0
