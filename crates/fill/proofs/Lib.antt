@@ -1,0 +1,19 @@
+-- Why the crate `fill` meets its contracts.
+-- Clearing: cells made 00h one after the other.
+mod Clearing
+-- Marks: flags and their counts.
+mod Marks
+-- Scanning: the missing cells of a line, place after place.
+mod Scanning
+-- Lines: a line of the cube as a run of bytes, and the lines of an axis by number.
+mod Lines
+-- Checks: the checks 1 to 5, by what each of them finds.
+mod Checks
+-- Reaching: peeling as a relation between two states, and that a line filled is such a step.
+mod Reaching
+-- Outcome: what the steps of a call add up to.
+mod Outcome
+-- Unique: there is at most one filling, the contract of `fill` determines answer, cube and flags, and bytes of missing cells do not matter.
+pub mod Unique
+-- Recovery: a code cube with erasures comes back, and how many cells can be left.
+pub mod Recovery

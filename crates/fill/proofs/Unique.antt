@@ -1,0 +1,222 @@
+-- There is at most one filling, and the contract of `fill` determines answer, cube and flags, whatever the missing cells held before.
+-- Two fillings for the largest stopping set K differ nowhere: in a layer, the cells of K and those where the two differ are a stopping set, since
+-- two codewords differ at no place or at three; so they lie in K, where both are 00h.
+use mathlib.Core.Path.{_≡_, refl, sym, ap, _∙_}
+use mathlib.Core.Bool.{Bool, true, false, not, true≢false}
+use mathlib.Core.List.{List}
+use mathlib.Core.Logic.{_≢_, _⊎_, inl, inr, ⊎-elim}
+use Prim.Native.Nat.{ℕ, _+_, _*_, _≤_, _<_}
+use native.Mathlib.Nat.{le-trans}
+use native.Mathlib.Omega.{arith}
+use borrow.Author.Tests.{eqb-true, eq-eqb, not-false}
+use lib.Dec.{eqb}
+use lib.ListN.{length, getD}
+use lib.Seq.{ext-getD}
+use Rattle.cube.specs.declared.Shape.{Shape}
+use Rattle.cube.specs.declared.Refusal.{Refusal}
+use Rattle.cube.specs.declared.Answer.{Answer}
+use Rattle.cube.specs.declared.Answer.the-variants.{Done, Refused}
+use Rattle.cube.specs.Shapes.{Valid, cells, measured, IsLine}
+use Rattle.cube.specs.Cube.{layer, lineIn}
+use Rattle.cube.proofs.Geometry.{cell-lt-cells, line-cell-lt, line-length-high}
+use Rattle.cube.proofs.Unique.{cells-ext}
+use Rattle.line.proofs.Codeword.{codeword-unique}
+use Rattle.field.specs.Field.{reduction, Primitive}
+use Rattle.field.proofs.Primitive.{primitive}
+use Rattle.stopping.specs.Stopping.{number, onLine, Stopping, Largest}
+use Rattle.stopping.proofs.Number.{true-or-false, not-true-false, number-few}
+use Rattle.stopping.proofs.Stopping.{union, union-left, union-right, union-cases, union-neither, onLine-mono, onLine-cong, onLine-none, onLine-zero, stops-or-peels, largest-unique}
+use Rattle.fill.specs.declared.FillAnswer.{FillAnswer}
+use Rattle.fill.specs.declared.FillAnswer.the-variants.{Left, Impossible}
+use Rattle.cube.specs.Flags.{missing, flagsValid}
+use Rattle.fill.specs.Fill.{flagsChecked, Filling, Cleared, FillOutcome}
+use Rattle.fill.specs.State.{Sized}
+use Rattle.fill.proofs.Checks.{done-sized}
+use Rattle.fill.proofs.Marks.{valid-flag, one-missing, missing-one}
+
+-- lists of W bytes a cell that agree in every layer of every cell are equal
+pub layers-ext : (sh : Shape) (xs ys : List ℕ) → Valid sh → length xs ≡ sh .w * cells sh → length ys ≡ sh .w * cells sh
+    → ((n w : ℕ) → n < cells sh → w < sh .w → layer sh xs w n ≡ layer sh ys w n) → xs ≡ ys
+layers-ext sh xs ys v p q same =
+    cells-ext sh xs ys (omega (arith, v .l1-low)) (omega (arith, v .l2-low)) (v .w-low) p q
+    (λ a b c w la lb lc l. same _ w (cell-lt-cells sh a b c la lb lc) l)
+
+-- ---- where two cubes differ in a layer
+
+unfoldable differs : Shape → List ℕ → List ℕ → ℕ → ℕ → Bool
+differs sh v u w n = not (eqb (layer sh v w n) (layer sh u w n))
+
+differs-equal : (sh : Shape) (v u : List ℕ) (w n : ℕ) → layer sh v w n ≡ layer sh u w n → differs sh v u w n ≡ false
+unfolding differs
+differs-equal sh v u w n e = ap not (eq-eqb _ _ e)
+
+differs-no : (sh : Shape) (v u : List ℕ) (w n : ℕ) → differs sh v u w n ≡ false → layer sh v w n ≡ layer sh u w n
+unfolding differs
+differs-no sh v u w n e = eqb-true _ _ (not-false _ e)
+
+-- ---- two fillings
+
+module _ (r : ℕ) (p : Primitive r) (sh : Shape) (valid : Valid sh) (xs : List ℕ) (M K : ℕ → Bool) (largest : Largest (cells sh) (IsLine sh) M K)
+    (v u : List ℕ) (f : Filling r sh xs M K v) (g : Filling r sh xs M K u) where
+  module _ (w : ℕ) (b : w < sh .w) where
+    -- on a line without a cell of K, two codewords that differ at one or two places at most do not differ
+    line-same : (first stride len : ℕ) → IsLine sh first stride len → onLine K first stride len ≡ 0 → (j k : ℕ)
+        → ((i : ℕ) → i < len → i ≢ j → i ≢ k → union K (differs sh v u w) (first + stride * i) ≡ false)
+        → (i : ℕ) → i < len → layer sh v w (first + stride * i) ≡ layer sh u w (first + stride * i)
+    unfolding lineIn layer
+    line-same first stride len l z j k others =
+        codeword-unique r (lineIn sh v w first stride) (lineIn sh u w first stride) len j k p (line-length-high sh first stride len valid l)
+        (λ i m. f .bytes _) (λ i m. g .bytes _) (f .lines first stride len l z w b) (g .lines first stride len l z w b)
+        (λ i m nj nk.
+        differs-no sh v u w (first + stride * i)
+        (not-true-false _ (λ d. true≢false (sym (union-right K (differs sh v u w) (first + stride * i) d) ∙ others i m nj nk))))
+
+    line-stops : (first stride len : ℕ) → IsLine sh first stride len → onLine K first stride len ≡ 0
+        → (onLine (union K (differs sh v u w)) first stride len ≡ 0) ⊎ (3 ≤ onLine (union K (differs sh v u w)) first stride len)
+    unfolding onLine
+    line-stops first stride len l z =
+        ⊎-elim (λ s. s)
+        (λ (few : (1 ≤ onLine (union K (differs sh v u w)) first stride len) × (onLine (union K (differs sh v u w)) first stride len ≤ 2)).
+        let (j, k, order, bound, ej, ek, others) = number-few (λ i. union K (differs sh v u w) (first + stride * i)) len (few .0) (few .1) in
+        inl
+        (onLine-none (union K (differs sh v u w)) first stride len
+        (λ i m.
+        union-neither K (differs sh v u w) (first + stride * i) (onLine-zero K first stride len z i m)
+        (differs-equal sh v u w (first + stride * i) (line-same first stride len l z j k others i m)))))
+        (stops-or-peels (onLine (union K (differs sh v u w)) first stride len))
+
+    support-stopping : Stopping (cells sh) (IsLine sh) M (union K (differs sh v u w))
+    support-stopping =
+        record {
+          inside = λ n l e.
+              ⊎-elim (largest .stopping .inside n l)
+              (λ (d : differs sh v u w n ≡ true).
+              ⊎-elim (λ t. t)
+              (λ (m : M n ≡ false).
+              absurd (true≢false (sym d ∙ differs-equal sh v u w n (f .known n w l b m ∙ sym (g .known n w l b m)))))
+              (true-or-false (M n)))
+              (union-cases K (differs sh v u w) n e);
+          meets = λ first stride len l.
+              ⊎-elim (line-stops first stride len l)
+              (λ t. inr (le-trans t (onLine-mono K (union K (differs sh v u w)) first stride len (λ i m. union-left K (differs sh v u w) (first + stride * i)))))
+              (largest .stopping .meets first stride len l);
+        }
+
+    layer-same : (n : ℕ) → n < cells sh → layer sh v w n ≡ layer sh u w n
+    layer-same n l =
+        ⊎-elim
+        (λ (d : differs sh v u w n ≡ true).
+        let e : K n ≡ true = largest .every (union K (differs sh v u w)) support-stopping n l (union-right K (differs sh v u w) n d) in
+        f .left n w l b e ∙ sym (g .left n w l b e))
+        (differs-no sh v u w n) (true-or-false (differs sh v u w n))
+
+  -- "There is at most one."
+  pub filling-unique : length xs ≡ sh .w * cells sh → v ≡ u
+  filling-unique s = layers-ext sh v u valid (f .size ∙ s) (g .size ∙ s) (λ n w l b. layer-same w b n l)
+
+-- ---- the contract determines answer, cube and flags
+
+-- flags that are 0 or 1 and missing at the same cells are the same
+flags-ext : (fs gs : List ℕ) → flagsValid fs ≡ true → flagsValid gs ≡ true → length fs ≡ length gs
+    → ((n : ℕ) → n < length fs → missing fs n ≡ missing gs n) → fs ≡ gs
+flags-ext fs gs vf vg size same =
+    ext-getD 0 fs gs size
+    (λ n l.
+    ⊎-elim (λ (e : missing fs n ≡ true). one-missing fs n e ∙ sym (one-missing gs n (sym (same n l) ∙ e)))
+    (λ (e : missing fs n ≡ false). zero fs vf n e ∙ sym (zero gs vg n (sym (same n l) ∙ e))) (true-or-false (missing fs n)))
+  where
+    zero : (hs : List ℕ) → flagsValid hs ≡ true → (n : ℕ) → missing hs n ≡ false → getD hs n 0 ≡ 0
+    zero hs v n e =
+        let ne : getD hs n 0 ≢ 1 = λ o. true≢false (sym (missing-one hs n o) ∙ e) in
+        omega (arith, valid-flag hs v n)
+
+-- a filling for K is one for the same set
+pub filling-cong : {r : ℕ} {sh : Shape} {xs : List ℕ} {M K K' : ℕ → Bool} {v : List ℕ} → ((n : ℕ) → n < cells sh → K n ≡ K' n)
+    → Filling r sh xs M K v → Filling r sh xs M K' v
+filling-cong {r} {sh} {xs} {M} {K} {K'} {v} same f =
+    record {
+      size = f .size;
+      bytes = f .bytes;
+      known = f .known;
+      left = λ n w l b e. f .left n w l b (same n l ∙ e);
+      lines = λ first stride len l z.
+          f .lines first stride len l
+          (onLine-cong K K' first stride len (λ i m. same (first + stride * i) (line-cell-lt sh first stride len i l m)) ∙ z);
+    }
+
+cleared-unique : {sh : Shape} {xs fs : List ℕ} {M : ℕ → Bool} {v u : List ℕ} → Sized sh xs fs → Cleared sh xs M v → Cleared sh xs M u → v ≡ u
+cleared-unique {sh} {xs} {fs} {M} {v} {u} z a b =
+    layers-ext sh v u (z .valid) (a .size ∙ z .bytes) (b .size ∙ z .bytes)
+    (λ n w l m.
+    ⊎-elim (λ e. a .missing n w l m e ∙ sym (b .missing n w l m e)) (λ e. a .known n w l m e ∙ sym (b .known n w l m e)) (true-or-false (M n)))
+
+-- answer, cube and flags of two calls
+pub record Same (a b : FillAnswer) (xs ys fs gs : List ℕ) : Type 0 where
+  pub answer : a ≡ b
+  pub cube : xs ≡ ys
+  pub flags : fs ≡ gs
+
+pub done-refused : {a : Answer} {f : Refusal} → a ≡ Done → a ≡ Refused f → ⊥
+done-refused p q = let n : _≡_ {A = ℕ} 0 1 = cc in omega arith
+
+filled-same : (sh : Shape) (xs fs ys gs zs hs : List ℕ) → Sized sh xs fs → length gs ≡ length fs → length hs ≡ length fs → flagsValid gs ≡ true
+    → flagsValid hs ≡ true → Largest (cells sh) (IsLine sh) (missing fs) (missing gs) → Largest (cells sh) (IsLine sh) (missing fs) (missing hs)
+    → Filling reduction sh xs (missing fs) (missing gs) ys → Filling reduction sh xs (missing fs) (missing hs) zs
+    → Same (Left (number (missing gs) (cells sh))) (Left (number (missing hs) (cells sh))) ys zs gs hs
+filled-same sh xs fs ys gs zs hs z sg sh' vg vh k k' u u' =
+    record {
+      answer = ap (λ (q : List ℕ). Left (number (missing q) (cells sh))) same;
+      cube = filling-unique reduction primitive sh (z .valid) xs (missing fs) (missing hs) k' ys zs (filling-cong (largest-unique k k') u) u' (z .bytes);
+      flags = same;
+    }
+  where
+    same : gs ≡ hs
+    same = flags-ext gs hs vg vh (sg ∙ sym sh') (λ n l. largest-unique k k' n (omega (arith, z .flags)))
+
+pub outcome-determined : {sh : Shape} {xs fs ys gs zs hs : List ℕ} {a b : FillAnswer} → FillOutcome sh xs fs ys gs a → FillOutcome sh xs fs zs hs b
+    → Same a b ys zs gs hs
+outcome-determined (FillOutcome.refused f p x g) (FillOutcome.refused f' p' x' g') =
+    let same : Refused f ≡ Refused f' = sym p ∙ p' in
+    let e : f ≡ f' = cc in
+    record { answer = ap Impossible e; cube = x ∙ sym x'; flags = g ∙ sym g' }
+outcome-determined (FillOutcome.refused f p x g) (FillOutcome.filled d s v k u) = absurd (done-refused d p)
+outcome-determined (FillOutcome.refused f p x g) (FillOutcome.contradiction d k l n c e) = absurd (done-refused d p)
+outcome-determined (FillOutcome.filled d s v k u) (FillOutcome.refused f p x g) = absurd (done-refused d p)
+outcome-determined {sh} {xs} {fs} {ys} {gs} {zs} {hs} (FillOutcome.filled d s v k u) (FillOutcome.filled d' s' v' k' u') =
+    filled-same sh xs fs ys gs zs hs (done-sized sh xs fs d) s s' v v' k k' u u'
+outcome-determined (FillOutcome.filled d s v k u) (FillOutcome.contradiction d' k' l' n' c' e') =
+    absurd (n' _ (filling-cong (largest-unique k l') u))
+outcome-determined (FillOutcome.contradiction d k l n c e) (FillOutcome.refused f p x g) = absurd (done-refused d p)
+outcome-determined (FillOutcome.contradiction d k l n c e) (FillOutcome.filled d' s' v' k' u') =
+    absurd (n _ (filling-cong (largest-unique k' l) u'))
+outcome-determined {sh} {xs} {fs} (FillOutcome.contradiction d k l n c e) (FillOutcome.contradiction d' k' l' n' c' e') =
+    record { answer = refl; cube = cleared-unique (done-sized sh xs fs d) c c'; flags = e ∙ sym e' }
+
+-- ---- "Bytes of missing cells are not read."
+
+-- two cubes of one length whose known cells have the same bytes
+pub record SameKnown (sh : Shape) (M : ℕ → Bool) (xs ys : List ℕ) : Type 0 where
+  pub size : length xs ≡ length ys
+  pub known : (n w : ℕ) → n < cells sh → w < sh .w → M n ≡ false → layer sh xs w n ≡ layer sh ys w n
+
+filling-known : {r : ℕ} {sh : Shape} {xs ys : List ℕ} {M K : ℕ → Bool} {v : List ℕ} → SameKnown sh M xs ys → Filling r sh xs M K v
+    → Filling r sh ys M K v
+filling-known s f =
+    record {
+      size = f .size ∙ s .size;
+      bytes = f .bytes;
+      known = λ n w l b e. f .known n w l b e ∙ s .known n w l b e;
+      left = f .left;
+      lines = f .lines;
+    }
+
+-- what a call that passes the checks answers and leaves does not depend on the bytes of missing cells
+pub outcome-known : {sh : Shape} {xs ys fs zs gs : List ℕ} {answer : FillAnswer} → SameKnown sh (missing fs) xs ys
+    → flagsChecked (measured sh) (length xs) fs ≡ Done → FillOutcome sh xs fs zs gs answer → FillOutcome sh ys fs zs gs answer
+outcome-known s done (FillOutcome.refused f p x g) = absurd (done-refused done p)
+outcome-known s done (FillOutcome.filled d t v k u) =
+    FillOutcome.filled (rw (← (s .size)) d) t v k (filling-known s u)
+outcome-known {sh} {xs} {ys} {fs} s done (FillOutcome.contradiction d K l n c e) =
+    FillOutcome.contradiction (rw (← (s .size)) d) K l
+    (λ v f. n v (filling-known (record { size = sym (s .size); known = λ m w q b h. sym (s .known m w q b h) }) f))
+    (record { size = c .size ∙ s .size; known = λ m w q b h. c .known m w q b h ∙ s .known m w q b h; missing = c .missing }) e

@@ -1,0 +1,99 @@
+-- `fill::fill` leaves the filling where one exists, and else says 13 and leaves the missing cells 00h.
+use mathlib.Core.Path.{_≡_, refl, sym, _∙_}
+use native.Mathlib.Omega.{arith}
+use borrow.Author.Needs.{needs}
+use denote.Ref.{now}
+use lib.ListN.{length}
+use Rattle.cube.specs.declared.Answer.the-variants.{Done}
+use Rattle.cube.specs.Shapes.{measured}
+use Rattle.fill.specs.Fill.{flagsChecked, FillOutcome, refused}
+use Rattle.fill.specs.State.{Sized}
+use Rattle.fill.proofs.Checks.{done-sized}
+use Rattle.fill.proofs.Clearing.{cleared-sized}
+use Rattle.fill.proofs.Reaching.{reaches-sized}
+use Rattle.fill.proofs.Outcome.{filled-outcome, contradiction-outcome}
+use Rattle.fill.proofs.fill.Statement.{statement}
+use Rattle.fill.proofs.fill.Tie as tie
+
+done :
+    (c : tie.After-enum-told) →
+    flagsChecked (measured (c .before .before .before .before .before .before .args .sh)) (length (now (c .before .before .before .before .before .before .args .cube))) (now (c .before .before .before .before .before .before .args .flags)) ≡ Done
+done c = sym (c .before .before .check .ensures) ∙ c .enum-told .given .1
+
+verified :
+    (c : tie.After-peel) → Sized (c .before .before .before .before .before .before .before .before .before .before .before .before .before .before .args .sh) (c .peel .last .0) (c .peel .last .1 .0)
+verified c =
+    reaches-sized (cleared-sized _ _ _ _ _ (done-sized _ _ _ (done (c .before .before .before .before .before .before .before .before))) (c .before .before .before .before .before .clear-missing .ensures)) (c .peel .ensures .reaches)
+
+check-requires : tie.Need-check-requires
+check-requires c κs = search needs
+
+enum-known-answer : tie.Need-enum-known-answer
+enum-known-answer c = search needs
+
+same-length : tie.Need-same-length
+same-length c = search needs
+
+returns : tie.Need-returns
+returns c = FillOutcome.refused _ (sym (c .before .before .before .check .ensures) ∙ c .before .answer .given .1) refl refl
+
+enum-told : tie.Need-enum-told
+enum-told c = search needs
+
+clear-missing-requires : tie.Need-clear-missing-requires
+clear-missing-requires c κs = done-sized _ _ _ (done (c .before .before))
+
+peel-requires : tie.Need-peel-requires
+peel-requires c κs = cleared-sized _ _ _ _ _ (done-sized _ _ _ (done (c .before .before .before .before .before .before .before))) (c .before .before .before .before .clear-missing .ensures)
+
+verify-requires : tie.Need-verify-requires
+verify-requires c κs = verified (c .before .before .before .before .before .before)
+
+settle-requires : tie.Need-settle-requires
+settle-requires c κs = search needs
+
+restore-requires : tie.Need-restore-requires
+restore-requires c κs = verified (c .before .before .before .before .before .before .before .before .before .before)
+
+same-length-2 : tie.Need-same-length-2
+same-length-2 c = search needs
+
+same-length-3 : tie.Need-same-length-3
+same-length-3 c = search needs
+
+returns-2 : tie.Need-returns-2
+returns-2 c =
+    filled-outcome _ _ _ _ _ _ (done (c .before .before .before .before .before .before .before .before .before .before .before .before .before .before .before .before .before .before .before .before)) (c .before .before .before .before .before .before .before .before .before .before .before .before .before .before .before .before .before .clear-missing .ensures) (c .before .before .before .before .before .before .before .before .before .before .before .before .peel .ensures) _ (c .before .before .settle .ensures .0)
+    (λ q. omega (arith, c .before .before .before .before .before .before .before .before .before .before .slice-known4 .given q)) (c .before .before .before .before .before .verify .ensures .yes-then (c .before .before .before .before .if1 .taken)) _ (c .before .before .settle .ensures .1)
+
+same-length-4 : tie.Need-same-length-4
+same-length-4 c = search needs
+
+same-length-5 : tie.Need-same-length-5
+same-length-5 c = search needs
+
+returns-3 : tie.Need-returns-3
+returns-3 c =
+    contradiction-outcome _ _ _ _ _ _ (done (c .before .before .before .before .before .before .before .before .before .before .before .before .before .before .before .before .before .before .before .before .before .before .before)) (c .before .before .before .before .before .before .before .before .before .before .before .before .before .before .before .before .before .before .before .before .clear-missing .ensures) (c .before .before .before .before .before .before .before .before .before .before .before .before .before .before .before .peel .ensures) _ _ (c .before .before .before .before .restore .ensures .0)
+    (c .before .before .before .before .restore .ensures .1) (c .before .before .before .before .before .before .before .before .verify .ensures .no-then (c .before .before .before .before .before .before .before .if1 .left))
+
+pub fill-spec : {M : Type 1} → statement M
+fill-spec =
+    tie.close
+    (tie.spec
+    check-requires
+    enum-known-answer
+    same-length
+    returns
+    enum-told
+    clear-missing-requires
+    peel-requires
+    verify-requires
+    settle-requires
+    restore-requires
+    same-length-2
+    same-length-3
+    returns-2
+    same-length-4
+    same-length-5
+    returns-3)

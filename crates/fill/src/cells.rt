@@ -1,0 +1,71 @@
+// Flags and cells. Within a call a cell that was filled has the private flag 3; 2 stays free.
+use cube::Shape;
+ghost use mathlib.Core.Path.{_≡_};
+ghost use Prim.Native.Nat.{_+_, _≤_};
+ghost use lib.ListN.{length};
+ghost use Rattle.stopping.specs.Stopping.{number};
+ghost use Rattle.cube.specs.Flags.{missing};
+ghost use Rattle.fill.specs.Fill.{Cleared};
+ghost use Rattle.fill.specs.State.{filled, Sized, Zeroed, Remarked};
+
+// Clears every missing cell: right for each outcome that is left.
+pub(crate) fn clear_missing(cube: &mut [u8], flags: &[u8], sh: Shape)
+    requires { ⌜ Sized sh (now cube) (now flags) ⌝ }
+    ensures { λ _. ⌜ Cleared sh (now (cube .entry)) (missing (now (flags .entry))) (now (cube .exit)) ⌝ }
+{
+    let w = sh.w;
+    let mut n = 0;
+    while n < flags.len() {
+        if flags[n] == 1 {
+            clear_cell(cube, n * w, w);
+        }
+        n += 1;
+    }
+}
+
+// After a filling: filled cells are known, and the answer is how many are left.
+pub(crate) fn settle(flags: &mut [u8]) -> usize
+    ensures { λ r. ⌜ Remarked 0 (now (flags .entry)) (now (flags .exit)) ⌝ }
+    ensures { λ r. ⌜ r ≡ number (missing (now (flags .exit))) (length (now (flags .entry))) ⌝ }
+{
+    let mut left = 0;
+    let mut n = 0;
+    while n < flags.len() {
+        if flags[n] == 3 {
+            flags[n] = 0;
+        }
+        if flags[n] == 1 {
+            left += 1;
+        }
+        n += 1;
+    }
+    left
+}
+
+// After a contradiction: filled cells are missing again, and cleared.
+pub(crate) fn restore(cube: &mut [u8], flags: &mut [u8], sh: Shape)
+    requires { ⌜ Sized sh (now cube) (now flags) ⌝ }
+    ensures { λ _. ⌜ Cleared sh (now (cube .entry)) (filled (now (flags .entry))) (now (cube .exit)) ⌝ }
+    ensures { λ _. ⌜ Remarked 1 (now (flags .entry)) (now (flags .exit)) ⌝ }
+{
+    let w = sh.w;
+    let mut n = 0;
+    while n < flags.len() {
+        if flags[n] == 3 {
+            flags[n] = 1;
+            clear_cell(cube, n * w, w);
+        }
+        n += 1;
+    }
+}
+
+fn clear_cell(cube: &mut [u8], at: usize, w: usize)
+    requires { ⌜ at + w ≤ length (now cube) ⌝ }
+    ensures { λ _. ⌜ Zeroed at w (now (cube .entry)) (now (cube .exit)) ⌝ }
+{
+    let mut t = 0;
+    while t < w {
+        cube[at + t] = 0;
+        t += 1;
+    }
+}

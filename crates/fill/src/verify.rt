@@ -1,0 +1,59 @@
+// The last check: every line without a missing cell must be a codeword in every layer.
+use crate::peel;
+use cube::Line;
+use cube::LineAnswer;
+use cube::Shape;
+use line::Run;
+ghost use Prim.Native.Nat.{_≤_};
+ghost use Rattle.cube.specs.Shapes.{IsLine};
+ghost use Rattle.fill.specs.State.{Sized, Right, AxisRight, AllRight, Decides};
+
+pub(crate) fn verify(cube: &[u8], flags: &[u8], sh: Shape) -> bool
+    requires { ⌜ Sized sh (now cube) (now flags) ⌝ }
+    ensures { λ r. ⌜ Decides (AllRight sh (now (cube .entry)) (now (flags .entry))) r ⌝ }
+{
+    if !verify_axis(cube, flags, sh, 1) {
+        return false;
+    }
+    if !verify_axis(cube, flags, sh, 2) {
+        return false;
+    }
+    verify_axis(cube, flags, sh, 3)
+}
+
+fn verify_axis(cube: &[u8], flags: &[u8], sh: Shape, axis: usize) -> bool
+    requires { ⌜ Sized sh (now cube) (now flags) ⌝ }
+    requires { ⌜ (1 ≤ axis) × (axis ≤ 3) ⌝ }
+    ensures { λ r. ⌜ Decides (AxisRight sh (now (cube .entry)) (now (flags .entry)) axis) r ⌝ }
+{
+    let mut m = 0;
+    loop {
+        let found = cube::axis_line(sh, axis, m);
+        let LineAnswer::Found(line) = found else {
+            return true;
+        };
+        if !verify_line(cube, flags, sh, line) {
+            return false;
+        }
+        m += 1;
+    }
+}
+
+fn verify_line(cube: &[u8], flags: &[u8], sh: Shape, line: Line) -> bool
+    requires { ⌜ Sized sh (now cube) (now flags) ⌝ }
+    requires { ⌜ IsLine sh (line .first) (line .stride) (line .len) ⌝ }
+    ensures { λ r. ⌜ Decides (Right sh (now (cube .entry)) (now (flags .entry)) (line .first) (line .stride) (line .len)) r ⌝ }
+{
+    let e = peel::scan(flags, line);
+    if e.count != 0 {
+        return true;
+    }
+    let w = sh.w;
+    let run = Run {
+        first: line.first * w,
+        stride: line.stride * w,
+        len: line.len,
+        width: w,
+    };
+    line::codewords(cube, run)
+}

@@ -1,0 +1,90 @@
+-- `mend::mend` meets its contract. Assumes nothing.
+use mathlib.Core.Path.{_≡_, refl, sym, ap, _∙_}
+use mathlib.Core.Bool.{false≢true}
+use Prim.Native.Nat.{ℕ}
+use lib.ListN.{length, replicate}
+use Rattle.field.specs.Field.{reduction}
+use Rattle.cube.specs.declared.Answer.the-variants.{Done}
+use Rattle.cube.specs.Shapes.{measured}
+use Rattle.mend.specs.Mend.{Passes, correctChecked, CorrectOutcome, refused, mended, uncorrected}
+use Rattle.mend.proofs.Checks.{Ready, ready}
+use borrow.Author.Needs.{needs}
+use Rattle.mend.proofs.mend.Statement.{statement}
+use Rattle.mend.proofs.mend.Tie as tie
+
+-- the checks pass
+done-here : (c : tie.After-enum-told)
+    → let a = c .before .before .before .before .before .before .args in
+    correctChecked (measured (a .sh)) (length (a .cube .now)) (a .flags .now) (length (a .second .now)) ≡ Done
+done-here c = sym (c .before .before .check .ensures) ∙ c .enum-told .given .1
+
+ready-here : (c : tie.After-enum-told)
+    → let a = c .before .before .before .before .before .before .args in
+    Ready (a .sh) (length (a .cube .now)) (length (a .second .now))
+ready-here c = ready _ _ _ _ (done-here c)
+
+-- the passes start from the cube
+passes-here : (c : tie.After-three-passes)
+    → let a = c .before .before .before .before .before .before .before .before .before .before .before .before .args in Passes reduction (a .sh) (a .cube .now) (c .three-passes .last .0)
+passes-here c = rw (c .before .before .before .before .copy .ensures) at (c .three-passes .ensures)
+
+check-requires : tie.Need-check-requires
+check-requires c κs = search needs
+
+enum-told : tie.Need-enum-told
+enum-told c = search needs
+
+enum-told-2 : tie.Need-enum-told-2
+enum-told-2 c = search needs
+
+returns : tie.Need-returns
+returns c = rw (c .enum-told2 .given .1) (refused _ (sym (c .before .before .check .ensures) ∙ c .enum-told2 .given .1) refl)
+
+copy-requires : tie.Need-copy-requires
+copy-requires c κs = let ok = ready-here (c .before) in ok .room ∙ sym (ok .size)
+
+three-passes-requires : tie.Need-three-passes-requires
+three-passes-requires c κs = let ok = ready-here (c .before .before .before .before .before) in (ok .valid, ap length (c .before .before .before .copy .ensures) ∙ ok .size)
+
+is-code-cube-requires : tie.Need-is-code-cube-requires
+is-code-cube-requires c κs = search needs
+
+clear-requires : tie.Need-clear-requires
+clear-requires c κs = search needs
+
+same-length : tie.Need-same-length
+same-length c = search needs
+
+returns-2 : tie.Need-returns-2
+returns-2 c =
+    mended (done-here (c .before .before .before .before .before .before .before .before .before .before .before)) (passes-here (c .before .before .before .before .before)) (c .before .is-code-cube .ensures .code (c .if1 .taken))
+
+same-length-2 : tie.Need-same-length-2
+same-length-2 c = search needs
+
+returns-3 : tie.Need-returns-3
+returns-3 c =
+    let tested = c .before .before .before .before in
+    let passed = c .before .before .before .before .before .before .before .before .before in
+    let checked = passed .before .before .before .before .before .before in
+    uncorrected (done-here checked) _ (passes-here passed)
+    (λ code. false≢true (sym (tested .if1 .left) ∙ tested .before .is-code-cube .ensures .yes-when (ready-here checked .valid) code))
+    (c .before .before .clear .ensures
+    ∙ ap (λ (n : ℕ). replicate n 0) (passed .three-passes .kept .0 ∙ passed .before .before .before .before .copy .kept .1 .0))
+
+pub mend-spec : {M : Type 1} → statement M
+mend-spec =
+    tie.close
+    (tie.spec
+    check-requires
+    enum-told
+    enum-told-2
+    returns
+    copy-requires
+    three-passes-requires
+    is-code-cube-requires
+    clear-requires
+    same-length
+    returns-2
+    same-length-2
+    returns-3)

@@ -1,0 +1,2 @@
+-- What a reader of the crate `mend` must believe.
+pub mod Mend

@@ -1,0 +1,11 @@
+-- The laws of stopping sets, over any family of lines and any set of cells.
+-- how many members a set has: comparing, choosing and counting in blocks
+pub mod Number
+-- unions, the largest, peeling
+pub mod Stopping
+-- a cube's lines: 27 cells, a data cell
+pub mod Cube
+-- the largest of a list of lines, computed
+pub mod Peeling
+-- the cube's lines as a list, and the examples
+pub mod CubeLines

@@ -1,0 +1,2 @@
+-- What a reader of the crate `stopping` must believe.
+pub mod Stopping
