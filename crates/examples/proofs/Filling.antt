@@ -1,0 +1,207 @@
+-- Filling, computed: the largest stopping set of a cube's flags by peeling, and tests of the outcomes of `fill`. A cube has no filling where some
+-- line of known cells is not right: a filling would be the same there, and right.
+use mathlib.Core.Path.{_≡_, refl, sym, ap, subst, _∙_}
+use mathlib.Core.Bool.{Bool, true, false, not, false≢true, Bool·beq}
+use mathlib.Core.List.{List, [], _∷_}
+use Prim.Native.Nat.{ℕ, zero, suc, _+_, _*_, _<_}
+use native.Mathlib.Omega.{arith}
+use lib.Dec.{eqb, ltb}
+use lib.ListN.{length, getD}
+use borrow.Author.Tests.{eqb-true, eq-eqb, ltb-true, not-true}
+use Rattle.field.specs.Field.{reduction}
+use Rattle.line.specs.Line.{Codeword}
+use Rattle.line.proofs.Codeword.{codeword-cong}
+use Rattle.stopping.specs.Stopping.{number, onLine, Largest}
+use Rattle.stopping.proofs.Number.{number-cong}
+use Rattle.stopping.proofs.Stopping.{largest-unique, largest-cong, largest-family, onLine-mono, onLine-zero}
+use Rattle.stopping.proofs.Cube.{CubeLine}
+use Rattle.stopping.proofs.Peeling.{has, listed, has-listed, largest}
+use Rattle.stopping.proofs.CubeLines.{cubeLines, cube-largest}
+use Rattle.cube.specs.declared.Shape.{Shape}
+use Rattle.cube.specs.declared.Fault.the-variants.{Contradiction}
+use Rattle.cube.specs.declared.Refusal.the-variants.{Plain}
+use Rattle.cube.specs.Shapes.{both, cells, cell, measured, IsLine}
+use Rattle.cube.specs.Cube.{layer, lineIn}
+use Rattle.cube.proofs.Valid.{both-parts}
+use Rattle.cube.proofs.Geometry.{line-cell-lt}
+use Rattle.fill.specs.declared.FillAnswer.the-variants.{Left, Impossible}
+use Rattle.cube.specs.Flags.{missing, flagsValid}
+use Rattle.fill.specs.Fill.{flagsChecked, Filling, FillOutcome}
+use Rattle.examples.proofs.Tests.{implies, implies-sound, implies-true, same, same-sound, done?, done?-sound, all₂, all₂-sound, allLines, allLines-sound, allLines-true, line?, line?-sound, line?-true}
+
+-- ---- the largest stopping set
+
+cube-line-is : (sh : Shape) (first stride len : ℕ) → CubeLine (sh .l1) (sh .l2) (sh .l3) first stride len → IsLine sh first stride len
+unfolding cell
+cube-line-is sh _ _ _ (CubeLine.axis1 b c p q) = IsLine.axis1 b c p q
+cube-line-is sh _ _ _ (CubeLine.axis2 a c p q) = IsLine.axis2 a c p q
+cube-line-is sh _ _ _ (CubeLine.axis3 a b p q) = IsLine.axis3 a b p q
+
+is-cube-line : (sh : Shape) (first stride len : ℕ) → IsLine sh first stride len → CubeLine (sh .l1) (sh .l2) (sh .l3) first stride len
+unfolding cell
+is-cube-line sh _ _ _ (IsLine.axis1 b c p q) = CubeLine.axis1 b c p q
+is-cube-line sh _ _ _ (IsLine.axis2 a c p q) = CubeLine.axis2 a c p q
+is-cube-line sh _ _ _ (IsLine.axis3 a b p q) = CubeLine.axis3 a b p q
+
+-- what is left of the missing cells M after peeling
+unfoldable pub peeledOf : Shape → (ℕ → Bool) → List Bool
+peeledOf sh M = largest (cells sh) (cubeLines (sh .l1) (sh .l2) (sh .l3)) M
+
+peeledOf-largest : (sh : Shape) (M : ℕ → Bool) → Largest (cells sh) (IsLine sh) M (has (peeledOf sh M))
+unfolding peeledOf cells
+peeledOf-largest sh M = largest-family (cube-line-is sh) (is-cube-line sh) (cube-largest (sh .l1) (sh .l2) (sh .l3) M)
+
+-- K is the largest stopping set among the missing cells M
+unfoldable pub largest? : Shape → (M K : ℕ → Bool) → Bool
+largest? sh M K = same Bool·beq (peeledOf sh M) (listed (cells sh) K)
+
+beq-sound : (a b : Bool) → Bool·beq a b ≡ true → a ≡ b
+beq-sound true true h = refl
+beq-sound true false h = absurd (false≢true h)
+beq-sound false true h = absurd (false≢true h)
+beq-sound false false h = refl
+
+largest?-sound : (sh : Shape) (M K : ℕ → Bool) → largest? sh M K ≡ true → Largest (cells sh) (IsLine sh) M K
+unfolding largest?
+largest?-sound sh M K h =
+    largest-cong (λ f s n l i m. line-cell-lt sh f s n i l m)
+    (λ n l. ap (λ (R : List Bool). has R n) (same-sound Bool·beq beq-sound _ _ h) ∙ has-listed (cells sh) K n l) (peeledOf-largest sh M)
+
+-- so many cells are left
+unfoldable pub leaves? : Shape → List ℕ → ℕ → Bool
+leaves? sh fs left = eqb (number (has (peeledOf sh (missing fs))) (cells sh)) left
+
+pub leaves?-sound : (sh : Shape) (fs : List ℕ) (left : ℕ) → leaves? sh fs left ≡ true
+    → (K : ℕ → Bool) → Largest (cells sh) (IsLine sh) (missing fs) K → number K (cells sh) ≡ left
+unfolding leaves?
+leaves?-sound sh fs left h K u = number-cong _ _ (cells sh) (largest-unique u (peeledOf-largest sh (missing fs))) ∙ eqb-true _ _ h
+
+-- ---- fillings
+
+unfoldable pub bytes? : List ℕ → Bool
+bytes? [] = true
+bytes? (b ∷ bs) = both (ltb b 256) (bytes? bs)
+
+bytes?-sound : (v : List ℕ) → bytes? v ≡ true → (p : ℕ) → getD v p 0 < 256
+unfolding bytes?
+bytes?-sound [] h p = omega arith
+bytes?-sound (b ∷ bs) h zero = ltb-true b 256 (both-parts (ltb b 256) (bytes? bs) h .0)
+bytes?-sound (b ∷ bs) h (suc p) = bytes?-sound bs (both-parts (ltb b 256) (bytes? bs) h .1) p
+
+-- v has the bytes of xs in the cells where M does not hold
+unfoldable pub kept? : Shape → List ℕ → (ℕ → Bool) → List ℕ → Bool
+kept? sh xs M v = all₂ (cells sh) (sh .w) (λ n w. implies (not (M n)) (eqb (layer sh v w n) (layer sh xs w n)))
+
+kept?-sound : (sh : Shape) (xs : List ℕ) (M : ℕ → Bool) (v : List ℕ) → kept? sh xs M v ≡ true
+    → (n w : ℕ) → n < cells sh → w < sh .w → M n ≡ false → layer sh v w n ≡ layer sh xs w n
+unfolding kept?
+kept?-sound sh xs M v h n w l m e = eqb-true _ _ (implies-sound _ _ (all₂-sound (cells sh) (sh .w) _ h n w l m) (ap not e))
+
+-- v is 00h in the cells where K holds
+unfoldable pub zero? : Shape → (ℕ → Bool) → List ℕ → Bool
+zero? sh K v = all₂ (cells sh) (sh .w) (λ n w. implies (K n) (eqb (layer sh v w n) 0))
+
+zero?-sound : (sh : Shape) (K : ℕ → Bool) (v : List ℕ) → zero? sh K v ≡ true
+    → (n w : ℕ) → n < cells sh → w < sh .w → K n ≡ true → layer sh v w n ≡ 0
+unfolding zero?
+zero?-sound sh K v h n w l m e = eqb-true _ _ (implies-sound _ _ (all₂-sound (cells sh) (sh .w) _ h n w l m) e)
+
+-- every line without a cell of S is right
+unfoldable pub rightOff? : ℕ → Shape → (ℕ → Bool) → List ℕ → Bool
+rightOff? r sh S v = allLines sh (λ first stride len. implies (eqb (onLine S first stride len) 0) (line? r sh v first stride len))
+
+rightOff?-sound : (r : ℕ) (sh : Shape) (S : ℕ → Bool) (v : List ℕ) → rightOff? r sh S v ≡ true
+    → (first stride len : ℕ) → IsLine sh first stride len → onLine S first stride len ≡ 0
+    → (w : ℕ) → w < sh .w → Codeword r (lineIn sh v w first stride) len
+unfolding rightOff?
+rightOff?-sound r sh S v h f s n l z = line?-sound r sh v f s n (implies-sound _ _ (allLines-sound sh _ h f s n l) (eq-eqb _ _ z))
+
+rightOff?-true : (r : ℕ) (sh : Shape) (S : ℕ → Bool) (v : List ℕ)
+    → ((first stride len : ℕ) → IsLine sh first stride len → onLine S first stride len ≡ 0
+    → (w : ℕ) → w < sh .w → Codeword r (lineIn sh v w first stride) len)
+    → rightOff? r sh S v ≡ true
+unfolding rightOff?
+rightOff?-true r sh S v h =
+    allLines-true sh _ (λ f s n l. implies-true _ _ (λ z. line?-true r sh v f s n (h f s n l (eqb-true _ _ z))))
+
+unfoldable pub filling? : ℕ → Shape → List ℕ → (M K : ℕ → Bool) → List ℕ → Bool
+filling? r sh xs M K v =
+    both (eqb (length v) (length xs)) (both (bytes? v) (both (kept? sh xs M v) (both (zero? sh K v) (rightOff? r sh K v))))
+
+filling?-sound : (r : ℕ) (sh : Shape) (xs : List ℕ) (M K : ℕ → Bool) (v : List ℕ) → filling? r sh xs M K v ≡ true → Filling r sh xs M K v
+unfolding filling?
+filling?-sound r sh xs M K v h =
+    let (size, h1) = both-parts (eqb (length v) (length xs)) _ h in
+    let (bytes, h2) = both-parts (bytes? v) _ h1 in
+    let (kept, h3) = both-parts (kept? sh xs M v) _ h2 in
+    let (zeros, lines) = both-parts (zero? sh K v) _ h3 in
+    record {
+      size = eqb-true _ _ size;
+      bytes = bytes?-sound v bytes;
+      known = kept?-sound sh xs M v kept;
+      left = zero?-sound sh K v zeros;
+      lines = rightOff?-sound r sh K v lines;
+    }
+
+-- a filling has the cube's bytes on a line of known cells
+line-agrees : {r : ℕ} {sh : Shape} {xs : List ℕ} {M K : ℕ → Bool} {v : List ℕ} → Filling r sh xs M K v
+    → (first stride len : ℕ) → IsLine sh first stride len → onLine M first stride len ≡ 0
+    → (w : ℕ) → w < sh .w → (i : ℕ) → i < len → lineIn sh v w first stride i ≡ lineIn sh xs w first stride i
+unfolding lineIn
+line-agrees {sh = sh} {M = M} filling f s n l z w m i q =
+    filling .known (f + s * i) w (line-cell-lt sh f s n i l q) m (onLine-zero M f s n z i q)
+
+-- a filling is right on every line of known cells, and so is the cube
+known-right : (r : ℕ) (sh : Shape) (xs : List ℕ) (M K : ℕ → Bool) (v : List ℕ) → Largest (cells sh) (IsLine sh) M K → Filling r sh xs M K v
+    → rightOff? r sh M xs ≡ true
+known-right r sh xs M K v u filling = rightOff?-true r sh M xs lines
+  where
+    lines : (f s n : ℕ) → IsLine sh f s n → onLine M f s n ≡ 0 → (w : ℕ) → w < sh .w → Codeword r (lineIn sh xs w f s) n
+    lines f s n l z w m =
+        let none : onLine K f s n ≡ 0 =
+        omega (arith, onLine-mono K M f s n (λ i q. u .stopping .inside (f + s * i) (line-cell-lt sh f s n i l q)))
+        in
+        codeword-cong r (lineIn sh v w f s) (lineIn sh xs w f s) n (line-agrees filling f s n l z w m) (filling .lines f s n l none w m)
+
+-- ---- what `fill` answers and leaves
+
+unfoldable pub filled? : Shape → (xs fs xs′ fs′ : List ℕ) → ℕ → Bool
+filled? sh xs fs xs′ fs′ left =
+    both (done? (flagsChecked (measured sh) (length xs) fs))
+    (both (eqb (length fs′) (length fs))
+    (both (flagsValid fs′)
+    (both (largest? sh (missing fs) (missing fs′))
+    (both (filling? reduction sh xs (missing fs) (missing fs′) xs′) (eqb (number (missing fs′) (cells sh)) left)))))
+
+pub filled?-sound : (sh : Shape) (xs fs xs′ fs′ : List ℕ) (left : ℕ) → filled? sh xs fs xs′ fs′ left ≡ true → FillOutcome sh xs fs xs′ fs′ (Left left)
+unfolding filled?
+filled?-sound sh xs fs xs′ fs′ left h =
+    let (checks, h1) = both-parts (done? (flagsChecked (measured sh) (length xs) fs)) _ h in
+    let (size, h2) = both-parts (eqb (length fs′) (length fs)) _ h1 in
+    let (flags, h3) = both-parts (flagsValid fs′) _ h2 in
+    let (stuck, h4) = both-parts (largest? sh (missing fs) (missing fs′)) _ h3 in
+    let (filling, count) = both-parts (filling? reduction sh xs (missing fs) (missing fs′) xs′) _ h4 in
+    subst (λ (n : ℕ). FillOutcome sh xs fs xs′ fs′ (Left n)) (eqb-true _ _ count)
+    (FillOutcome.filled (done?-sound _ checks) (eqb-true _ _ size) flags (largest?-sound sh _ _ stuck) (filling?-sound reduction sh xs _ _ xs′ filling))
+
+unfoldable pub contradicts? : Shape → (xs fs xs′ fs′ : List ℕ) → Bool
+contradicts? sh xs fs xs′ fs′ =
+    both (done? (flagsChecked (measured sh) (length xs) fs))
+    (both (not (rightOff? reduction sh (missing fs) xs))
+    (both (eqb (length xs′) (length xs))
+    (both (kept? sh xs (missing fs) xs′) (both (zero? sh (missing fs) xs′) (same eqb fs′ fs)))))
+
+pub contradicts?-sound : (sh : Shape) (xs fs xs′ fs′ : List ℕ) → contradicts? sh xs fs xs′ fs′ ≡ true
+    → FillOutcome sh xs fs xs′ fs′ (Impossible (Plain Contradiction))
+unfolding contradicts?
+contradicts?-sound sh xs fs xs′ fs′ h =
+    let M : ℕ → Bool = missing fs in
+    let (checks, h1) = both-parts (done? (flagsChecked (measured sh) (length xs) fs)) _ h in
+    let (wrong, h2) = both-parts (not (rightOff? reduction sh M xs)) _ h1 in
+    let (size, h3) = both-parts (eqb (length xs′) (length xs)) _ h2 in
+    let (kept, h4) = both-parts (kept? sh xs M xs′) _ h3 in
+    let (zeros, flags) = both-parts (zero? sh M xs′) _ h4 in
+    FillOutcome.contradiction (done?-sound _ checks) (has (peeledOf sh M)) (peeledOf-largest sh M)
+    (λ v filling. false≢true (sym (not-true _ wrong) ∙ known-right reduction sh xs M _ v (peeledOf-largest sh M) filling))
+    (record { size = eqb-true _ _ size; known = kept?-sound sh xs M xs′ kept; missing = zero?-sound sh M xs′ zeros })
+    (same-sound eqb eqb-true fs′ fs flags)

@@ -1,0 +1,2 @@
+-- What a reader of the crate `examples` must believe.
+pub mod Examples
