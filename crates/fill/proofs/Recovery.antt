@@ -15,12 +15,13 @@ use Rattle.cube.specs.declared.Refusal.the-variants.{Plain}
 use Rattle.cube.specs.declared.Answer.the-variants.{Done}
 use Rattle.cube.specs.Shapes.{Valid, cells, cell, measured, IsLine}
 use Rattle.cube.specs.Cube.{layer, lineIn, CodeCube}
+use Rattle.cube.proofs.Valid.{volume-le}
 use Rattle.cube.proofs.Geometry.{line-cell-lt}
 use Rattle.line.proofs.Codeword.{codeword-cong}
 use Rattle.field.specs.Field.{reduction}
 use Rattle.field.proofs.Primitive.{primitive}
 use Rattle.stopping.specs.Stopping.{number, onLine, Stopping, Largest}
-use Rattle.stopping.proofs.Number.{not-true-false, member, number-zero}
+use Rattle.stopping.proofs.Number.{not-true-false, member, number-le, number-zero}
 use Rattle.stopping.proofs.Stopping.{onLine-zero, stopping-size}
 use Rattle.stopping.proofs.Cube.{CubeLine, cube-none-or-27, cube-data}
 use Rattle.fill.specs.declared.FillAnswer.{FillAnswer}
@@ -172,6 +173,14 @@ left-none-or-27 (FillOutcome.filled d s v k u) = stopping-none-or-27 (k .stoppin
 pub left-data : {sh : Shape} {xs fs xs′ fs′ : List ℕ} {n : ℕ} → FillOutcome sh xs fs xs′ fs′ (Left n) → n ≢ 0
     → (a : ℕ) × (b : ℕ) × (c : ℕ) × (a < sh .l1 - 2) × (b < sh .l2 - 2) × (c < sh .l3 - 2) × (missing fs′ (cell sh a b c) ≡ true)
 left-data (FillOutcome.filled d s v k u) some = stopping-data (k .stopping) some
+
+-- no more cells are left than the largest cube has
+pub left-le : {sh : Shape} {xs fs xs′ fs′ : List ℕ} {n : ℕ} → FillOutcome sh xs fs xs′ fs′ (Left n) → n ≤ 16581375
+unfolding cells
+left-le {sh} {xs} {fs} {xs′} {fs′} (FillOutcome.filled d s v k u) =
+    let ok : Valid sh = done-sized sh xs fs d .valid in
+    omega
+    (arith, number-le (missing fs′) (cells sh), volume-le (sh .l1) (sh .l2) (sh .l3) (ok .l1-high) (ok .l2-high) (ok .l3-high))
 
 -- 26 or fewer missing cells are all filled, or the known cells contradict each other
 pub few-filled : {sh : Shape} {xs fs xs′ fs′ : List ℕ} {answer : FillAnswer} → FillOutcome sh xs fs xs′ fs′ answer

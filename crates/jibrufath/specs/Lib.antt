@@ -1,0 +1,2 @@
+-- What a reader of the crate `jibrufath` must believe.
+pub mod Exports
