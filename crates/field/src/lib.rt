@@ -39,6 +39,20 @@ pub fn mul(reduction: u8, a: u8, b: u8) -> u8
     step(reduction, p, a, b)
 }
 
+// The sum of the products a b and c d, by one run over the bits of b and d together.
+pub fn dot(reduction: u8, a: u8, b: u8, c: u8, d: u8) -> u8
+    ensures { λ r. ⌜ r ≡ add (mul reduction a b) (mul reduction c d) ⌝ }
+{
+    let p = masked_sum(a, b >> 7, c, d >> 7);
+    let p = dot_step(reduction, p, a, b >> 6, c, d >> 6);
+    let p = dot_step(reduction, p, a, b >> 5, c, d >> 5);
+    let p = dot_step(reduction, p, a, b >> 4, c, d >> 4);
+    let p = dot_step(reduction, p, a, b >> 3, c, d >> 3);
+    let p = dot_step(reduction, p, a, b >> 2, c, d >> 2);
+    let p = dot_step(reduction, p, a, b >> 1, c, d >> 1);
+    dot_step(reduction, p, a, b, c, d)
+}
+
 // The i-th power of α.
 pub fn pow(reduction: u8, i: usize) -> u8
     ensures { λ r. ⌜ r ≡ pow reduction i ⌝ }
@@ -72,6 +86,20 @@ fn step(reduction: u8, p: u8, a: u8, bits: u8) -> u8
     ensures { λ r. ⌜ r ≡ add ((bits % 2) * a) (xtime reduction p) ⌝ }
 {
     masked(a, bits) ^ xtime(reduction, p)
+}
+
+// One step of Horner's rule for two products: a and c are added where the lowest bits of b and d are 1.
+fn dot_step(reduction: u8, p: u8, a: u8, b: u8, c: u8, d: u8) -> u8
+    ensures { λ r. ⌜ r ≡ add (add ((b % 2) * a) ((d % 2) * c)) (xtime reduction p) ⌝ }
+{
+    masked_sum(a, b, c, d) ^ xtime(reduction, p)
+}
+
+// a where the lowest bit of b is 1, and c where that of d is 1, added.
+fn masked_sum(a: u8, b: u8, c: u8, d: u8) -> u8
+    ensures { λ r. ⌜ r ≡ add ((b % 2) * a) ((d % 2) * c) ⌝ }
+{
+    masked(a, b) ^ masked(c, d)
 }
 
 // a where the lowest bit of `bits` is 1, and else 0.

@@ -1,7 +1,7 @@
 -- Erasures filled in: the completed line is a codeword where two places were erased, and the only one that agrees with what was known.
 use mathlib.Core.Path.{_≡_, refl, sym, ap, ap₂, _∙_}
 use mathlib.Core.Logic.{_≢_}
-use Prim.Native.Nat.{ℕ, _≤_, _<_}
+use Prim.Native.Nat.{ℕ, _+_, _≤_, _<_}
 use native.Mathlib.Decide.{ℕ-discrete}
 use native.Mathlib.Omega.{arith}
 use lib.Dec.{eqb}
@@ -11,7 +11,7 @@ use Rattle.field.proofs.Multiplication.{mul-comm, mul-add-l, mul-add-r, mul-one
 use Rattle.field.proofs.Power.{pow-lt, pow-different, mul-inverse}
 use Rattle.line.specs.Line.{syndrome0, syndrome1, Codeword, pick, erased, row0, row1, solved, completed}
 use Rattle.line.proofs.Pick.{pick-eq, pick-ne}
-use Rattle.line.proofs.Syndrome.{syndrome0-cong, syndrome1-cong, syndrome0-add, syndrome1-add, syndrome0-lt, syndrome1-lt, single, single-at, single-off, syndrome0-single, syndrome1-single, syndrome0-change}
+use Rattle.line.proofs.Syndrome.{syndrome0-cong, syndrome1-cong, syndrome0-zeros, syndrome1-zeros, syndrome0-add, syndrome1-add, syndrome0-lt, syndrome1-lt, single, single-at, single-off, syndrome0-single, syndrome1-single, syndrome0-change}
 use Rattle.line.proofs.Codeword.{codeword-cong, codeword-zero, codeword-add, codeword-scale, codeword-sum0, codeword-sum1, codeword-unique}
 
 -- ---- the places of an erased line
@@ -41,6 +41,24 @@ erased-lt j k c i h =
           rw (pick-ne i k 0 (pick (eqb i j) 0 (c i)) nk)
           (elim (ℕ-discrete i j) [ yes e ↦ rw (pick-eq i j 0 (c i) e) (omega arith) | no nj ↦ rw (pick-ne i j 0 (c i) nj) h ])
     ]
+
+-- Where every place from j on is erased, the places before j alone count.
+erased-end : (n j k : ℕ) (c : ℕ → ℕ) → k + 1 ≡ n → n ≤ j + 2 → (i : ℕ) → j ≤ i → i < n → erased j k c i ≡ 0
+erased-end n j k c last two i a b =
+    elim (ℕ-discrete i k) [
+      | yes e ↦ ap (erased j k c) e ∙ erased-later j k c
+      | no ne ↦ ap (erased j k c) {x = i} {y = j} (omega arith) ∙ erased-earlier j k c
+    ]
+
+pub syndrome0-erased-end : (n j k : ℕ) (c : ℕ → ℕ) → j ≤ k → k + 1 ≡ n → n ≤ j + 2 → syndrome0 (erased j k c) n ≡ syndrome0 c j
+syndrome0-erased-end n j k c le last two =
+    syndrome0-zeros (erased j k c) j n (omega arith) (erased-end n j k c last two)
+    ∙ syndrome0-cong (erased j k c) c j (λ i l. erased-off j k c i (omega arith) (omega arith))
+
+pub syndrome1-erased-end : (r n j k : ℕ) (c : ℕ → ℕ) → j ≤ k → k + 1 ≡ n → n ≤ j + 2 → syndrome1 r (erased j k c) n ≡ syndrome1 r c j
+syndrome1-erased-end r n j k c le last two =
+    syndrome1-zeros r (erased j k c) j n (omega arith) (erased-end n j k c last two)
+    ∙ syndrome1-cong r (erased j k c) c j (λ i l. erased-off j k c i (omega arith) (omega arith))
 
 -- ---- the solution
 

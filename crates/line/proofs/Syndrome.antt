@@ -25,6 +25,28 @@ unfolding syndrome1
 syndrome1-cong r x y zero h = refl
 syndrome1-cong r x y (suc n) h = ap₂ add (ap (mul r (pow r n)) (h n (omega arith))) (syndrome1-cong r x y n (λ i l. h i (omega arith)))
 
+-- places of 00h at the end add nothing
+pub syndrome0-zeros : (c : ℕ → ℕ) (m n : ℕ) → m ≤ n → ((i : ℕ) → m ≤ i → i < n → c i ≡ 0) → syndrome0 c n ≡ syndrome0 c m
+unfolding syndrome0
+syndrome0-zeros c m zero l h = ap (syndrome0 c) {x = 0} {y = m} (omega arith)
+syndrome0-zeros c m (suc n) l h =
+    elim (ℕ-discrete m (suc n)) [
+      | yes e ↦ ap (syndrome0 c) (sym e)
+      | no ne ↦ ap₂ add (h n (omega arith) (omega arith)) (syndrome0-zeros c m n (omega arith) (λ i a b. h i a (omega arith))) ∙ add-zero-l _
+    ]
+
+pub syndrome1-zeros : (r : ℕ) (c : ℕ → ℕ) (m n : ℕ) → m ≤ n → ((i : ℕ) → m ≤ i → i < n → c i ≡ 0) → syndrome1 r c n ≡ syndrome1 r c m
+unfolding syndrome1
+syndrome1-zeros r c m zero l h = ap (syndrome1 r c) {x = 0} {y = m} (omega arith)
+syndrome1-zeros r c m (suc n) l h =
+    elim (ℕ-discrete m (suc n)) [
+      | yes e ↦ ap (syndrome1 r c) (sym e)
+      | no ne ↦
+          ap₂ add (ap (mul r (pow r n)) (h n (omega arith) (omega arith)) ∙ mul-zero-r r (pow r n))
+          (syndrome1-zeros r c m n (omega arith) (λ i a b. h i a (omega arith)))
+          ∙ add-zero-l _
+    ]
+
 -- ---- linear
 
 pub syndrome0-zero : (n : ℕ) → syndrome0 (λ i. 0) n ≡ 0

@@ -42,16 +42,16 @@ four1 r c n i fits bytes h =
     ∙ step1 r c n i (i + 1) fits (bytes i) refl (omega arith)
 
 pub tails-none :
-    (r : ℕ) (run : Run) (s s0 s1 : List ℕ) → run .width ≤ 512 → s0 ≡ replicate 512 0 → s1 ≡ replicate 512 0 →
+    (r : ℕ) (run : Run) (s s0 s1 : List ℕ) → run .width ≤ 4096 → s0 ≡ replicate 4096 0 → s1 ≡ replicate 4096 0 →
     Tails r run (run .len) s s0 s1
 tails-none r run s s0 s1 few e0 e1 =
     record {
-      size0 = ap length e0 ∙ length-replicate {A = ℕ} 512 0;
-      size1 = ap length e1 ∙ length-replicate {A = ℕ} 512 0;
+      size0 = ap length e0 ∙ length-replicate {A = ℕ} 4096 0;
+      size1 = ap length e1 ∙ length-replicate {A = ℕ} 4096 0;
       first =
-          λ t h. ap (λ (l : List ℕ). getD l t 0) e0 ∙ getD-replicate 512 t 0 0 (omega arith) ∙ sym (tail0-end _ _);
+          λ t h. ap (λ (l : List ℕ). getD l t 0) e0 ∙ getD-replicate 4096 t 0 0 (omega arith) ∙ sym (tail0-end _ _);
       second =
-          λ t h. ap (λ (l : List ℕ). getD l t 0) e1 ∙ getD-replicate 512 t 0 0 (omega arith) ∙ sym (tail1-end _ _ _);
+          λ t h. ap (λ (l : List ℕ). getD l t 0) e1 ∙ getD-replicate 4096 t 0 0 (omega arith) ∙ sym (tail1-end _ _ _);
     }
 
 pub tails-at :

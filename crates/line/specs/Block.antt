@@ -24,11 +24,15 @@ part run a w =
 unfoldable pub front : Run → ℕ → Run
 front run w = record { first = run .first; stride = run .stride; len = run .len; width = w }
 
--- `next` is a block of at most 512 lines of the run, from line a on.
+-- the first n places of a run's lines
+unfoldable pub places : Run → ℕ → Run
+places run n = record { first = run .first; stride = run .stride; len = n; width = run .width }
+
+-- `next` is a block of at most 4096 lines of the run, from line a on.
 pub record Block (run : Run) (a : ℕ) (next : Run) : Type 0 where
   pub lines : next ≡ part run a (next .width)
   pub some-line : 0 < next .width
-  pub few-lines : next .width ≤ 512
+  pub few-lines : next .width ≤ 4096
   pub within : a + next .width ≤ run .width
 
 -- the syndromes of the line c of length n from the place `left` on
@@ -40,8 +44,8 @@ tail1 r c n left = syndrome1 r (λ i. c (left + i)) (n - left)
 
 -- s0 and s1 hold the syndromes of the run's lines from the place `left` on.
 pub record Tails (r : ℕ) (run : Run) (left : ℕ) (s s0 s1 : List ℕ) : Type 0 where
-  pub size0 : length s0 ≡ 512
-  pub size1 : length s1 ≡ 512
+  pub size0 : length s0 ≡ 4096
+  pub size1 : length s1 ≡ 4096
   pub first : (t : ℕ) → t < run .width → getD s0 t 0 ≡ tail0 (lineAt s run t) (run .len) left
   pub second : (t : ℕ) → t < run .width → getD s1 t 0 ≡ tail1 r (lineAt s run t) (run .len) left
 
@@ -80,6 +84,12 @@ pub record Four (r : ℕ) (run : Run) (left : ℕ) (s a0 a1 b0 b1 : List ℕ) : 
       (t : ℕ) → t < run .width → getD b0 t 0 ≡ horner0 (lineAt s run t) left (getD a0 t 0)
   pub second :
       (t : ℕ) → t < run .width → getD b1 t 0 ≡ horner1 r (lineAt s run t) left (getD a1 t 0)
+
+-- Every place from the erasure j on is erased, and it is not the first.
+pub record ToEnd (run : Run) (e : Erasures) : Type 0 where
+  pub some-place : 0 < e .j
+  pub last : e .k + 1 ≡ run .len
+  pub two : run .len ≤ e .j + 2
 
 -- Place i of each line of the run is 00h.
 pub record Cleared (run : Run) (i : ℕ) (before after : List ℕ) : Type 0 where

@@ -1,4 +1,4 @@
-// Blocks of at most 512 neighbouring lines: the syndromes of all lines of a block are gathered side by side, so that the inner
+// Blocks of at most 4096 neighbouring lines: the syndromes of all lines of a block are gathered side by side, so that the inner
 // loops run over bytes that lie next to each other.
 use crate::Run;
 ghost use mathlib.Core.Path.{_≡_};
@@ -6,9 +6,9 @@ ghost use Prim.Native.Nat.{ℕ, _+_, _*_, _/_, _^_, _<_, _≤_, min};
 ghost use lib.ListN.{length, getD, replicate};
 ghost use Rattle.line.specs.Line.{row0, row1, Codeword};
 ghost use Rattle.line.specs.Run.{Inside, Solved, lineAt};
-ghost use Rattle.line.specs.Block.{Decides, Block, Tails, Syndromes, One, Four, Cleared, Combined, AllZero};
+ghost use Rattle.line.specs.Block.{Decides, Block, ToEnd, Tails, Syndromes, One, Four, Cleared, Combined, AllZero};
 
-const BLOCK: usize = 512;
+const BLOCK: usize = 4096;
 
 // The erasures j ≤ k of each line of a run, with the row [b, d] of the inverted array that gives the byte at k.
 pub(crate) struct Erasures {
@@ -33,13 +33,55 @@ pub(crate) fn solve_blocks(s: &mut [u8], reduction: u8, run: Run, e: Erasures)
 }
 
 fn solve_block(s: &mut [u8], reduction: u8, run: Run, e: Erasures)
-    requires { ⌜ (Inside run (length (now s))) × (run .width ≤ 512) × (e .j ≤ e .k) × (e .k < run .len) × (e .b ≡ row0 reduction (e .j) (e .k)) × (e .d ≡ row1 reduction (e .j) (e .k)) ⌝ }
+    requires { ⌜ (Inside run (length (now s))) × (run .width ≤ 4096) × (e .j ≤ e .k) × (e .k < run .len) × (e .b ≡ row0 reduction (e .j) (e .k)) × (e .d ≡ row1 reduction (e .j) (e .k)) ⌝ }
+    ensures { λ r. ⌜ Solved reduction run (e .j) (e .k) (now (s .entry)) (now (s .exit)) ⌝ }
+{
+    if erased_to_end(run, e) {
+        solve_end(s, reduction, run, e);
+    } else {
+        solve_any(s, reduction, run, e);
+    }
+}
+
+// Whether every place from j on is erased, and j is not the first place.
+fn erased_to_end(run: Run, e: Erasures) -> bool
+    requires { ⌜ (run .len ≤ 255) × (e .j ≤ e .k) × (e .k < run .len) ⌝ }
+    ensures { λ r. ⌜ Decides (ToEnd run e) r ⌝ }
+{
+    if e.j == 0 {
+        return false;
+    }
+    if e.k + 1 < run.len {
+        return false;
+    }
+    run.len <= e.j + 2
+}
+
+// Where every place from j on is erased, the places before j alone count: no byte at an erasure is read or cleared.
+fn solve_end(s: &mut [u8], reduction: u8, run: Run, e: Erasures)
+    requires { ⌜ (Inside run (length (now s))) × (run .width ≤ 4096) × (e .j ≤ e .k) × (e .k < run .len) × (e .b ≡ row0 reduction (e .j) (e .k)) × (e .d ≡ row1 reduction (e .j) (e .k)) × (ToEnd run e) ⌝ }
+    ensures { λ r. ⌜ Solved reduction run (e .j) (e .k) (now (s .entry)) (now (s .exit)) ⌝ }
+{
+    let before = Run {
+        first: run.first,
+        stride: run.stride,
+        len: e.j,
+        width: run.width,
+    };
+    let mut s0 = [0u8; 4096];
+    let mut s1 = [0u8; 4096];
+    syndromes(s, &mut s0, &mut s1, reduction, before);
+    combine(s, &s0, &s1, reduction, run, e);
+}
+
+fn solve_any(s: &mut [u8], reduction: u8, run: Run, e: Erasures)
+    requires { ⌜ (Inside run (length (now s))) × (run .width ≤ 4096) × (e .j ≤ e .k) × (e .k < run .len) × (e .b ≡ row0 reduction (e .j) (e .k)) × (e .d ≡ row1 reduction (e .j) (e .k)) ⌝ }
     ensures { λ r. ⌜ Solved reduction run (e .j) (e .k) (now (s .entry)) (now (s .exit)) ⌝ }
 {
     clear(s, run, e.j);
     clear(s, run, e.k);
-    let mut s0 = [0u8; 512];
-    let mut s1 = [0u8; 512];
+    let mut s0 = [0u8; 4096];
+    let mut s1 = [0u8; 4096];
     syndromes(s, &mut s0, &mut s1, reduction, run);
     combine(s, &s0, &s1, reduction, run, e);
 }
@@ -62,11 +104,11 @@ pub(crate) fn codeword_blocks(s: &[u8], reduction: u8, run: Run) -> bool
 }
 
 fn codeword_block(s: &[u8], reduction: u8, run: Run) -> bool
-    requires { ⌜ (Inside run (length (now s))) × (run .width ≤ 512) ⌝ }
+    requires { ⌜ (Inside run (length (now s))) × (run .width ≤ 4096) ⌝ }
     ensures { λ r. ⌜ Decides ((t : ℕ) → t < run .width → Codeword reduction (lineAt (now (s .entry)) run t) (run .len)) r ⌝ }
 {
-    let mut s0 = [0u8; 512];
-    let mut s1 = [0u8; 512];
+    let mut s0 = [0u8; 4096];
+    let mut s1 = [0u8; 4096];
     syndromes(s, &mut s0, &mut s1, reduction, run);
     all_zero(&s0, &s1, run.width)
 }
@@ -92,8 +134,8 @@ fn least(a: usize, b: usize) -> usize
 }
 
 // Both syndromes of each line of a block, by Horner's rule from the far end; s0 and s1 come in as zeros.
-pub(crate) fn syndromes(s: &[u8], s0: &mut [u8; 512], s1: &mut [u8; 512], reduction: u8, run: Run)
-    requires { ⌜ (Inside run (length (now s))) × (run .width ≤ 512) × (now s0 ≡ replicate 512 0) × (now s1 ≡ replicate 512 0) ⌝ }
+pub(crate) fn syndromes(s: &[u8], s0: &mut [u8; 4096], s1: &mut [u8; 4096], reduction: u8, run: Run)
+    requires { ⌜ (Inside run (length (now s))) × (run .width ≤ 4096) × (now s0 ≡ replicate 4096 0) × (now s1 ≡ replicate 4096 0) ⌝ }
     ensures { λ r. ⌜ Syndromes reduction run (now (s .entry)) (now (s0 .exit)) (now (s1 .exit)) ⌝ }
 {
     ones(s, s0, s1, reduction, run);
@@ -101,8 +143,8 @@ pub(crate) fn syndromes(s: &[u8], s0: &mut [u8; 512], s1: &mut [u8; 512], reduct
 }
 
 // The places past the last multiple of four, of which there are at most three.
-fn ones(s: &[u8], s0: &mut [u8; 512], s1: &mut [u8; 512], reduction: u8, run: Run)
-    requires { ⌜ (Inside run (length (now s))) × (run .width ≤ 512) × (Tails reduction run (run .len) (now s) (now s0) (now s1)) ⌝ }
+fn ones(s: &[u8], s0: &mut [u8; 4096], s1: &mut [u8; 4096], reduction: u8, run: Run)
+    requires { ⌜ (Inside run (length (now s))) × (run .width ≤ 4096) × (Tails reduction run (run .len) (now s) (now s0) (now s1)) ⌝ }
     ensures { λ r. ⌜ Tails reduction run (run .len / 4 * 4) (now (s .entry)) (now (s0 .exit)) (now (s1 .exit)) ⌝ }
 {
     let left = run.len / 4 * 4;
@@ -112,8 +154,15 @@ fn ones(s: &[u8], s0: &mut [u8; 512], s1: &mut [u8; 512], reduction: u8, run: Ru
 }
 
 // A step by a place that the lines may be too short for.
-fn one_below(s: &[u8], s0: &mut [u8; 512], s1: &mut [u8; 512], reduction: u8, run: Run, left: usize)
-    requires { ⌜ (Inside run (length (now s))) × (run .width ≤ 512) × (Tails reduction run (min (left + 1) (run .len)) (now s) (now s0) (now s1)) ⌝ }
+fn one_below(
+    s: &[u8],
+    s0: &mut [u8; 4096],
+    s1: &mut [u8; 4096],
+    reduction: u8,
+    run: Run,
+    left: usize,
+)
+    requires { ⌜ (Inside run (length (now s))) × (run .width ≤ 4096) × (Tails reduction run (min (left + 1) (run .len)) (now s) (now s0) (now s1)) ⌝ }
     ensures { λ r. ⌜ Tails reduction run (min left (run .len)) (now (s .entry)) (now (s0 .exit)) (now (s1 .exit)) ⌝ }
 {
     if left < run.len {
@@ -123,8 +172,8 @@ fn one_below(s: &[u8], s0: &mut [u8; 512], s1: &mut [u8; 512], reduction: u8, ru
 
 // Four places a pass, so that the sums are read and written once for four. From a multiple of four (left - 1) / 4 * 4 is left - 4;
 // written so, the compiler does not see a fixed step downwards, for which it would give up the vector form of the inner loop.
-fn fours(s: &[u8], s0: &mut [u8; 512], s1: &mut [u8; 512], reduction: u8, run: Run)
-    requires { ⌜ (Inside run (length (now s))) × (run .width ≤ 512) × (Tails reduction run (run .len / 4 * 4) (now s) (now s0) (now s1)) ⌝ }
+fn fours(s: &[u8], s0: &mut [u8; 4096], s1: &mut [u8; 4096], reduction: u8, run: Run)
+    requires { ⌜ (Inside run (length (now s))) × (run .width ≤ 4096) × (Tails reduction run (run .len / 4 * 4) (now s) (now s0) (now s1)) ⌝ }
     ensures { λ r. ⌜ Tails reduction run 0 (now (s .entry)) (now (s0 .exit)) (now (s1 .exit)) ⌝ }
 {
     let mut left = run.len / 4 * 4;
@@ -134,8 +183,8 @@ fn fours(s: &[u8], s0: &mut [u8; 512], s1: &mut [u8; 512], reduction: u8, run: R
     }
 }
 
-fn four(s: &[u8], s0: &mut [u8; 512], s1: &mut [u8; 512], reduction: u8, run: Run, left: usize)
-    requires { ⌜ (Inside run (length (now s))) × (run .width ≤ 512) × (left + 3 < run .len) × (length (now s0) ≡ 512) × (length (now s1) ≡ 512) ⌝ }
+fn four(s: &[u8], s0: &mut [u8; 4096], s1: &mut [u8; 4096], reduction: u8, run: Run, left: usize)
+    requires { ⌜ (Inside run (length (now s))) × (run .width ≤ 4096) × (left + 3 < run .len) × (length (now s0) ≡ 4096) × (length (now s1) ≡ 4096) ⌝ }
     ensures { λ r. ⌜ Four reduction run left (now (s .entry)) (now (s0 .entry)) (now (s1 .entry)) (now (s0 .exit)) (now (s1 .exit)) ⌝ }
 {
     let stride = run.stride;
@@ -159,8 +208,8 @@ fn four(s: &[u8], s0: &mut [u8; 512], s1: &mut [u8; 512], reduction: u8, run: Ru
     }
 }
 
-fn one(s: &[u8], s0: &mut [u8; 512], s1: &mut [u8; 512], reduction: u8, run: Run, left: usize)
-    requires { ⌜ (Inside run (length (now s))) × (run .width ≤ 512) × (left < run .len) × (length (now s0) ≡ 512) × (length (now s1) ≡ 512) ⌝ }
+fn one(s: &[u8], s0: &mut [u8; 4096], s1: &mut [u8; 4096], reduction: u8, run: Run, left: usize)
+    requires { ⌜ (Inside run (length (now s))) × (run .width ≤ 4096) × (left < run .len) × (length (now s0) ≡ 4096) × (length (now s1) ≡ 4096) ⌝ }
     ensures { λ r. ⌜ One reduction run left (now (s .entry)) (now (s0 .entry)) (now (s1 .entry)) (now (s0 .exit)) (now (s1 .exit)) ⌝ }
 {
     let width = run.width;
@@ -175,8 +224,8 @@ fn one(s: &[u8], s0: &mut [u8; 512], s1: &mut [u8; 512], reduction: u8, run: Run
 }
 
 // Writes the bytes at both erasures of each line of a block; the later one last, so that it stands where both are one.
-fn combine(s: &mut [u8], s0: &[u8; 512], s1: &[u8; 512], reduction: u8, run: Run, e: Erasures)
-    requires { ⌜ (Inside run (length (now s))) × (run .width ≤ 512) × (e .j ≤ e .k) × (e .k < run .len) ⌝ }
+fn combine(s: &mut [u8], s0: &[u8; 4096], s1: &[u8; 4096], reduction: u8, run: Run, e: Erasures)
+    requires { ⌜ (Inside run (length (now s))) × (run .width ≤ 4096) × (e .j ≤ e .k) × (e .k < run .len) ⌝ }
     ensures { λ r. ⌜ Combined reduction run e (now (s0 .entry)) (now (s1 .entry)) (now (s .entry)) (now (s .exit)) ⌝ }
 {
     let width = run.width;
@@ -187,7 +236,7 @@ fn combine(s: &mut [u8], s0: &[u8; 512], s1: &[u8; 512], reduction: u8, run: Run
     let mut t = 0;
     while t < width {
         let x = s0[t];
-        let y = field::mul(reduction, x, b) ^ field::mul(reduction, s1[t], d);
+        let y = field::dot(reduction, x, b, s1[t], d);
         s[at_j + t] = x ^ y;
         s[at_k + t] = y;
         t += 1;
@@ -209,8 +258,8 @@ fn clear(s: &mut [u8], run: Run, i: usize)
 }
 
 // Whether both syndromes of each line are 0: the bytes are joined by or, so that no line costs a branch.
-pub(crate) fn all_zero(s0: &[u8; 512], s1: &[u8; 512], width: usize) -> bool
-    requires { ⌜ width ≤ 512 ⌝ }
+pub(crate) fn all_zero(s0: &[u8; 4096], s1: &[u8; 4096], width: usize) -> bool
+    requires { ⌜ width ≤ 4096 ⌝ }
     ensures { λ r. ⌜ Decides (AllZero width (now (s0 .entry)) (now (s1 .entry))) r ⌝ }
 {
     let mut any: u8 = 0;

@@ -55,19 +55,19 @@ pub(crate) fn correct_blocks(s: &mut [u8], reduction: u8, run: Run)
 }
 
 fn correct_block(s: &mut [u8], reduction: u8, run: Run)
-    requires { ⌜ (Primitive reduction) × (Inside run (length (now s))) × (run .width ≤ 512) ⌝ }
+    requires { ⌜ (Primitive reduction) × (Inside run (length (now s))) × (run .width ≤ 4096) ⌝ }
     ensures { λ r. ⌜ Corrected reduction run (now (s .entry)) (now (s .exit)) ⌝ }
 {
-    let mut s0 = [0u8; 512];
-    let mut s1 = [0u8; 512];
+    let mut s0 = [0u8; 4096];
+    let mut s1 = [0u8; 4096];
     block::syndromes(s, &mut s0, &mut s1, reduction, run);
     if !block::all_zero(&s0, &s1, run.width) {
         correct_lines(s, &s0, &s1, reduction, run);
     }
 }
 
-fn correct_lines(s: &mut [u8], s0: &[u8; 512], s1: &[u8; 512], reduction: u8, run: Run)
-    requires { ⌜ (Primitive reduction) × (Inside run (length (now s))) × (run .width ≤ 512) × (Syndromes reduction run (now s) (now s0) (now s1)) ⌝ }
+fn correct_lines(s: &mut [u8], s0: &[u8; 4096], s1: &[u8; 4096], reduction: u8, run: Run)
+    requires { ⌜ (Primitive reduction) × (Inside run (length (now s))) × (run .width ≤ 4096) × (Syndromes reduction run (now s) (now s0) (now s1)) ⌝ }
     ensures { λ r. ⌜ Corrected reduction run (now (s .entry)) (now (s .exit)) ⌝ }
 {
     let width = run.width;

@@ -63,26 +63,23 @@ loop-holds c = (omega arith, strips-none _ _ _ _ _ _)
 element-copy-out-x : tie.Need-element-copy-out-x Inv-loop μ-loop
 element-copy-out-x c = omega arith
 
-mul-requires : tie.Need-mul-requires Inv-loop μ-loop
-mul-requires c κs = tt
+element-copy-out-dot : tie.Need-element-copy-out-dot Inv-loop μ-loop
+element-copy-out-dot c = omega arith
 
-element-copy-out-mul : tie.Need-element-copy-out-mul Inv-loop μ-loop
-element-copy-out-mul c = omega arith
-
-mul-requires-2 : tie.Need-mul-requires-2 Inv-loop μ-loop
-mul-requires-2 c κs = tt
+dot-requires : tie.Need-dot-requires Inv-loop μ-loop
+dot-requires c κs = tt
 
 add-s : tie.Need-add-s Inv-loop μ-loop
-add-s c = omega (arith, strip-j (c .before .before .before .before .before .before .before .before .before .before .before .before .before))
+add-s c = omega (arith, strip-j (c .before .before .before .before .before .before .before .before .before .before .before .before))
 
 slice-write-s : tie.Need-slice-write-s Inv-loop μ-loop
-slice-write-s c = omega (arith, strip-j (c .before .before .before .before .before .before .before .before .before .before .before .before .before), c .before .before .before .before .before .loop .inv .1 .size)
+slice-write-s c = omega (arith, strip-j (c .before .before .before .before .before .before .before .before .before .before .before .before), c .before .before .before .before .loop .inv .1 .size)
 
 add-s-2 : tie.Need-add-s-2 Inv-loop μ-loop
-add-s-2 c = omega (arith, strip-k (c .before .before .before .before .before .before .before .before .before .before .before .before .before))
+add-s-2 c = omega (arith, strip-k (c .before .before .before .before .before .before .before .before .before .before .before .before))
 
 slice-write-s-2 : tie.Need-slice-write-s-2 Inv-loop μ-loop
-slice-write-s-2 c = simp length-set (omega (arith, strip-k (c .before .before .before .before .before .before .before .before .before .before .before .before .before), c .before .before .before .before .before .loop .inv .1 .size))
+slice-write-s-2 c = simp length-set (omega (arith, strip-k (c .before .before .before .before .before .before .before .before .before .before .before .before), c .before .before .before .before .loop .inv .1 .size))
 
 add-t : tie.Need-add-t Inv-loop μ-loop
 add-t c = omega arith
@@ -94,8 +91,8 @@ loop-again : tie.Need-loop-again Inv-loop μ-loop
 unfolding add
 loop-again c = (
   omega arith,
-  strips-more (c .before .before .before .before .before .loop .inv .1) (strips-apart (c .before .before .before .before .before .before .before .before .before .before .before .before .before)) (c .before .before .before .before .loop-test .taken) (strip-j (c .before .before .before .before .before .before .before .before .before .before .before .before .before)) (strip-k (c .before .before .before .before .before .before .before .before .before .before .before .before .before)) _ _
-      (rw (c .mul2 .ensures, c .before .before .mul .ensures)) (rw (c .mul2 .ensures, c .before .before .mul .ensures)),
+  strips-more (c .before .before .before .before .loop .inv .1) (strips-apart (c .before .before .before .before .before .before .before .before .before .before .before .before)) (c .before .before .before .loop-test .taken) (strip-j (c .before .before .before .before .before .before .before .before .before .before .before .before)) (strip-k (c .before .before .before .before .before .before .before .before .before .before .before .before)) _ _
+      (rw (c .dot .ensures)) (rw (c .dot .ensures)),
 )
 
 same-length : tie.Need-same-length Inv-loop μ-loop
@@ -129,9 +126,8 @@ combine-spec =
     add-at-k
     loop-holds
     element-copy-out-x
-    mul-requires
-    element-copy-out-mul
-    mul-requires-2
+    element-copy-out-dot
+    dot-requires
     add-s
     slice-write-s
     add-s-2
