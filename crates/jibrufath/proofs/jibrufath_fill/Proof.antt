@@ -33,11 +33,11 @@ same-length-2 c = search needs
 returns : tie.Need-returns
 unfolding shape fillNumber
 returns c =
-    record
-      { answer = c .before .before .before .before .before .before .before .fill .result
-      ; outcome = c .before .before .before .before .before .before .before .fill .ensures
-      ; numbered = rw (c .before .answer .given .1)
-      }
+    record {
+      answer = c .before .before .before .before .before .before .before .fill .result;
+      outcome = c .before .before .before .before .before .before .before .fill .ensures;
+      numbered = rw (c .before .answer .given .1);
+    }
 
 same-length-3 : tie.Need-same-length-3
 same-length-3 c = search needs
@@ -48,11 +48,11 @@ same-length-4 c = search needs
 returns-2 : tie.Need-returns-2
 unfolding shape fillNumber
 returns-2 c =
-    record
-      { answer = c .before .before .before .before .before .before .before .before .fill .result
-      ; outcome = c .before .before .before .before .before .before .before .before .fill .ensures
-      ; numbered = rw (c .before .before .answer2 .given .1) (c .number .ensures)
-      }
+    record {
+      answer = c .before .before .before .before .before .before .before .before .fill .result;
+      outcome = c .before .before .before .before .before .before .before .before .fill .ensures;
+      numbered = rw (c .before .before .answer2 .given .1) (c .number .ensures);
+    }
 
 pub jibrufath-fill-spec : {M : Type 1} → statement M
 jibrufath-fill-spec =
