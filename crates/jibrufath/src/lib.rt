@@ -126,10 +126,10 @@ pub extern "C" fn jibrufath_inverse(a: u8) -> u8
 }
 
 #[no_mangle]
-pub extern "C" fn jibrufath_pow(i: usize) -> u8
+pub extern "C" fn jibrufath_pow(i: u8) -> u8
     ensures { λ r. ⌜ r ≡ pow reduction i ⌝ }
 {
-    field::pow(field::reduction(), i)
+    field::pow(field::reduction(), i as usize)
 }
 
 // An answer as its number.

@@ -2,6 +2,7 @@
 use mathlib.Core.Path.{refl, _∙_}
 use Rattle.line.proofs.Parts.{inside-size}
 use Rattle.line.proofs.Solving.{combined-solved}
+use native.Mathlib.Omega.{arith}
 use borrow.Author.Needs.{needs}
 use Rattle.line.proofs.block.solve_any.Statement.{statement}
 use Rattle.line.proofs.block.solve_any.Tie as tie
@@ -10,7 +11,7 @@ clear-requires : tie.Need-clear-requires
 clear-requires c κs = search needs
 
 clear-requires-2 : tie.Need-clear-requires-2
-clear-requires-2 c κs = (inside-size (c .before .before .before .before .before .before .pre .0) (c .before .before .before .clear .ensures .size), c .before .before .before .before .before .before .pre .3)
+clear-requires-2 c κs = (inside-size (c .before .before .before .before .before .before .pre .0) (c .before .before .before .clear .ensures .size), omega arith)
 
 syndromes-requires : tie.Need-syndromes-requires
 syndromes-requires c κs = (inside-size (c .before .before .before .before .before .before .before .before .before .before .before .before .pre .0) (c .before .before .before .before .before .clear2 .ensures .size ∙ c .before .before .before .before .before .before .before .before .before .clear .ensures .size), c .before .before .before .before .before .before .before .before .before .before .before .before .pre .1, refl, refl)

@@ -1,0 +1,103 @@
+//! Wrong bytes put right.
+
+use crate::refusal::answer;
+use crate::{Refusal, Shape};
+
+unsafe extern "C" {
+    fn jibrufath_mend_pass(
+        cube: *mut u8,
+        cube_len: usize,
+        l1: usize,
+        l2: usize,
+        l3: usize,
+        w: usize,
+        axis: usize,
+    ) -> u64;
+
+    fn jibrufath_mend(
+        cube: *const u8,
+        cube_len: usize,
+        flags: *const u8,
+        flags_len: usize,
+        second: *mut u8,
+        second_len: usize,
+        l1: usize,
+        l2: usize,
+        l3: usize,
+        w: usize,
+    ) -> u64;
+}
+
+/// One mending pass along an axis, 1, 2 or 3: on each line, in each layer, the one wrong byte that the two syndromes point
+/// to is put right. A line whose syndromes point to no place of it keeps its bytes.
+///
+/// `cube` has [`Shape::cube_len`] bytes.
+///
+/// # Errors
+///
+/// In this order: [`Refusal::Length`] (a length, or the axis), [`Refusal::Width`], [`Refusal::Size`],
+/// [`Refusal::Memory`]. A refusal changes no byte.
+///
+/// ```
+/// use jibrufath::{Refusal, Shape, mend_pass};
+///
+/// // A cube of zeros is a code cube. Two wrong bytes on a line along axis 1 stand alone on theirs along axis 2.
+/// let shape = Shape::new(3, 3, 3, 1);
+/// let mut cube = [0; 27];
+/// cube[0] = 0x01;
+/// cube[1] = 0x01;
+/// mend_pass(shape, 2, &mut cube)?;
+/// assert_eq!(cube, [0; 27]);
+///
+/// assert_eq!(mend_pass(shape, 4, &mut cube), Err(Refusal::Length));
+/// # Ok::<(), Refusal>(())
+/// ```
+pub fn mend_pass(shape: Shape, axis: usize, cube: &mut [u8]) -> Result<(), Refusal> {
+    let Shape { l1, l2, l3, w } = shape;
+    // SAFETY: the slice is borrowed for the call, which is proved to stay inside it for any numbers.
+    let word = unsafe { jibrufath_mend_pass(cube.as_mut_ptr(), cube.len(), l1, l2, l3, w, axis) };
+    answer(word).map(|_| ())
+}
+
+/// Passes along axis 1, 2 and 3, and writes what they leave to `second`, if it is a code cube.
+///
+/// `cube` and `second` have [`Shape::cube_len`] bytes, `flags` a byte for each cell, all 0. `cube` and `flags` are only read.
+///
+/// # Errors
+///
+/// In this order: [`Refusal::Length`], [`Refusal::Width`], [`Refusal::Size`], [`Refusal::Memory`], [`Refusal::Flag`],
+/// [`Refusal::Missing`], which change no byte; and [`Refusal::NotMended`], with `second` all 00h.
+///
+/// ```
+/// use jibrufath::{Shape, encode, mend};
+///
+/// let shape = Shape::new(3, 3, 3, 1);
+/// let mut cube = [0; 27];
+/// encode(shape, &[0x08], &mut cube)?;
+///
+/// let mut damaged = cube;
+/// damaged[13] = 0x00;
+/// let mut second = [0; 27];
+/// mend(shape, &damaged, &[0; 27], &mut second)?;
+/// assert_eq!(second, cube);
+/// # Ok::<(), jibrufath::Refusal>(())
+/// ```
+pub fn mend(shape: Shape, cube: &[u8], flags: &[u8], second: &mut [u8]) -> Result<(), Refusal> {
+    let Shape { l1, l2, l3, w } = shape;
+    // SAFETY: the slices are borrowed for the call, which is proved to stay inside them for any numbers.
+    let word = unsafe {
+        jibrufath_mend(
+            cube.as_ptr(),
+            cube.len(),
+            flags.as_ptr(),
+            flags.len(),
+            second.as_mut_ptr(),
+            second.len(),
+            l1,
+            l2,
+            l3,
+            w,
+        )
+    };
+    answer(word).map(|_| ())
+}

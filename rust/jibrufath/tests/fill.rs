@@ -1,0 +1,563 @@
+//! Filling compared with the independent program: answer, cube and flags, with garbage in missing cells.
+
+mod support;
+
+use jibrufath::{Shape, fill};
+use reference::random::Random;
+use support::{Lent, numbered, random_shape, twin};
+
+/// A cube and its flags, before a call.
+struct Trial {
+    shape: Shape,
+    cube: Vec<u8>,
+    flags: Vec<u8>,
+}
+
+impl Trial {
+    /// A random code cube with no cell missing.
+    fn new(random: &mut Random, shape: Shape) -> Trial {
+        let twin = twin(shape);
+        let data = random.bytes(twin.capacity());
+        let mut cube = vec![0; twin.cube_len()];
+        reference::encode(twin, &data, &mut cube).expect("the shape is good");
+        let flags = vec![0; twin.cells()];
+        Trial { shape, cube, flags }
+    }
+
+    /// Makes a cell missing, with garbage for its bytes.
+    fn lose(&mut self, random: &mut Random, cell: usize) {
+        self.flags[cell] = 1;
+        let garbage = random.bytes(self.shape.w);
+        self.cube[twin(self.shape).bytes(cell)].copy_from_slice(&garbage);
+    }
+
+    /// Makes each cell missing with this chance.
+    fn lose_percent(&mut self, random: &mut Random, percent: usize) {
+        for cell in 0..self.flags.len() {
+            if random.chance(percent) {
+                self.lose(random, cell);
+            }
+        }
+    }
+
+    /// Adds to one byte of a cell, in a random layer.
+    fn spoil(&mut self, random: &mut Random, cell: usize) {
+        let layer = random.among(0..=self.shape.w - 1);
+        self.cube[cell * self.shape.w + layer] ^= random.nonzero_byte();
+    }
+
+    /// Runs both programs, compares all that they leave, and hands back the answer.
+    fn compare(&self, random: &mut Random) -> Result<usize, u8> {
+        let shape = self.shape;
+        let mut cube = Lent::new(random, &self.cube);
+        let mut flags = Lent::new(random, &self.flags);
+        let [mut expected_cube, mut expected_flags] = [self.cube.clone(), self.flags.clone()];
+        let answer = reference::fill(twin(shape), &mut expected_cube, &mut expected_flags);
+        let result = fill(shape, cube.bytes_mut(), flags.bytes_mut());
+        assert_eq!(numbered(result), answer, "{shape:?}");
+        cube.assert_holds(&expected_cube, &format!("{shape:?}, {answer:?}, cube"));
+        flags.assert_holds(&expected_flags, &format!("{shape:?}, {answer:?}, flags"));
+        answer
+    }
+}
+
+/// A pattern of cells in a box, put at random coordinates of a shape, with the axes in random order.
+struct Embedded {
+    shape: Shape,
+    /// The cells of the pattern.
+    cells: Vec<usize>,
+    /// The other cells of the box.
+    rest: Vec<usize>,
+}
+
+impl Embedded {
+    /// The shape's lengths are at most `room` above those of the box.
+    fn new(
+        random: &mut Random,
+        sizes: [usize; 3],
+        room: usize,
+        in_pattern: impl Fn([usize; 3]) -> bool,
+    ) -> Embedded {
+        let axes = random.different(3, 3);
+        let mut lengths = [0; 3];
+        let mut coordinates = Vec::new();
+        for (&axis, size) in axes.iter().zip(sizes) {
+            lengths[axis] = random.among(size..=(size + room).min(255));
+            coordinates.push(random.different(size, lengths[axis]));
+        }
+        let w = match random.among(0..=19) {
+            0 => random.among(60..=70),
+            _ => random.among(1..=4),
+        };
+        let shape = Shape::new(lengths[0], lengths[1], lengths[2], w);
+        let (mut cells, mut rest) = (Vec::new(), Vec::new());
+        for number in 0..sizes.iter().product() {
+            let place = reference::Shape { lengths: sizes, w }.coordinates(number);
+            let mut to = [0; 3];
+            for i in 0..3 {
+                to[axes[i]] = coordinates[i][place[i]];
+            }
+            let part = if in_pattern(place) {
+                &mut cells
+            } else {
+                &mut rest
+            };
+            part.push(twin(shape).cell(to));
+        }
+        Embedded { shape, cells, rest }
+    }
+
+    /// A random code cube without the cells of the pattern.
+    fn trial(&self, random: &mut Random) -> Trial {
+        let mut trial = Trial::new(random, self.shape);
+        for &cell in &self.cells {
+            trial.lose(random, cell);
+        }
+        trial
+    }
+}
+
+/// A stopping set that is a whole box.
+fn block(random: &mut Random) -> Embedded {
+    let sizes = [0; 3].map(|_| random.among(3..=5));
+    Embedded::new(random, sizes, 3, |_| true)
+}
+
+/// A stopping set without a 3 by 3 by 3 block, n by n by m: all but the diagonal. Of the three lines through a cell of the
+/// diagonal, two have cells of the set and one has none.
+fn off_diagonal(random: &mut Random) -> Embedded {
+    // From 6 on, three of one axis and three others of the next would make a block.
+    let n = random.among(4..=5);
+    let m = random.among(3..=5);
+    Embedded::new(random, [n, n, m], 3, |[i, j, _]| i != j)
+}
+
+/// A stopping set, n by n by n, in which each line of the box lacks exactly one cell: every line through a cell of the
+/// rest has cells of the set.
+fn latin(random: &mut Random) -> Embedded {
+    let n = random.among(4..=6);
+    Embedded::new(random, [n, n, n], 2, |[i, j, k]| (i + j + k) % n != 0)
+}
+
+#[test]
+fn random_losses() {
+    let mut random = Random::new(3001);
+    let mut seen = [0; 2];
+    for _ in 0..4_000 {
+        let shape = random_shape(&mut random);
+        let mut trial = Trial::new(&mut random, shape);
+        let percent = random.among(0..=100);
+        trial.lose_percent(&mut random, percent);
+        match trial.compare(&mut random) {
+            Ok(0) => seen[0] += 1,
+            Ok(_) => seen[1] += 1,
+            Err(number) => panic!("a code cube with losses was refused {number}"),
+        }
+    }
+    assert!(seen.iter().all(|&count| count > 500), "{seen:?}");
+}
+
+#[test]
+fn losses_and_wrong_bytes() {
+    let mut random = Random::new(3002);
+    let mut seen = [0; 3];
+    for _ in 0..1_500 {
+        let shape = random_shape(&mut random);
+        let mut trial = Trial::new(&mut random, shape);
+        for _ in 0..random.among(1..=3) {
+            let cell = random.among(0..=trial.flags.len() - 1);
+            trial.spoil(&mut random, cell);
+        }
+        let percent = random.among(20..=100);
+        trial.lose_percent(&mut random, percent);
+        match trial.compare(&mut random) {
+            Ok(0) => seen[0] += 1,
+            Ok(_) => seen[1] += 1,
+            Err(_) => seen[2] += 1,
+        }
+    }
+    assert!(seen.iter().all(|&count| count > 100), "{seen:?}");
+}
+
+#[test]
+fn up_to_26_losses_always_fill() {
+    let mut random = Random::new(3003);
+    for _ in 0..1_000 {
+        let shape = random_shape(&mut random);
+        let mut trial = Trial::new(&mut random, shape);
+        let count = random.among(0..=26);
+        for cell in random.different(count, trial.flags.len()) {
+            trial.lose(&mut random, cell);
+        }
+        assert_eq!(trial.compare(&mut random), Ok(0), "{shape:?}, {count} lost");
+    }
+}
+
+#[test]
+fn whole_planes() {
+    let mut random = Random::new(3004);
+    for _ in 0..1_000 {
+        let shape = random_shape(&mut random);
+        let mut trial = Trial::new(&mut random, shape);
+        let axis = random.among(0..=2);
+        let length = twin(shape).lengths[axis];
+        let count = random.among(1..=length.min(5));
+        let planes = random.different(count, length);
+        let mut lost = 0;
+        for cell in 0..trial.flags.len() {
+            if planes.contains(&twin(shape).coordinates(cell)[axis]) {
+                trial.lose(&mut random, cell);
+                lost += 1;
+            }
+        }
+        // Two planes are two holes a line; three are a stopping set.
+        let left = if count < 3 { 0 } else { lost };
+        assert_eq!(
+            trial.compare(&mut random),
+            Ok(left),
+            "{shape:?}, {planes:?}"
+        );
+    }
+}
+
+#[test]
+fn stopping_sets() {
+    let mut random = Random::new(3005);
+    for make in [block, off_diagonal, latin] {
+        for case in 0..500 {
+            let set = make(&mut random);
+            let mut trial = set.trial(&mut random);
+            if case % 2 == 0 {
+                assert_eq!(
+                    trial.compare(&mut random),
+                    Ok(set.cells.len()),
+                    "{:?}",
+                    set.shape
+                );
+            } else {
+                // With other losses around it, the set is still left.
+                let percent = random.among(1..=50);
+                trial.lose_percent(&mut random, percent);
+                let left = trial.compare(&mut random).expect("a code cube with losses");
+                assert!(left >= set.cells.len());
+            }
+        }
+    }
+}
+
+#[test]
+fn stopping_set_but_for_one_cell() {
+    let mut random = Random::new(3006);
+    for make in [block, off_diagonal, latin] {
+        for _ in 0..100 {
+            let mut set = make(&mut random);
+            // Any cell of the smallest block frees all others; of a larger set, perhaps none.
+            let known = random.among(0..=set.cells.len() - 1);
+            set.cells.swap_remove(known);
+            let left = set.trial(&mut random).compare(&mut random);
+            assert!(left.expect("a code cube with losses") <= set.cells.len());
+        }
+    }
+}
+
+#[test]
+fn wrong_byte_in_one_layer() {
+    let mut random = Random::new(3007);
+    for _ in 0..500 {
+        let shape = random_shape(&mut random);
+        let mut trial = Trial::new(&mut random, shape);
+        let cell = random.among(0..=trial.flags.len() - 1);
+        trial.spoil(&mut random, cell);
+        // Every cell but the spoiled one may be among the few lost.
+        for other in random.different(3, trial.flags.len()) {
+            if other != cell && random.chance(50) {
+                trial.lose(&mut random, other);
+            }
+        }
+        assert_eq!(trial.compare(&mut random), Err(13), "{shape:?}");
+    }
+}
+
+#[test]
+fn contradiction_along_one_axis() {
+    let mut random = Random::new(3008);
+    for case in 0..600 {
+        let shape = random_shape(&mut random);
+        let mut trial = Trial::new(&mut random, shape);
+        // One plane of another code cube: right along the two axes inside it, wrong along the third.
+        let other = Trial::new(&mut random, shape);
+        let before = trial.cube.clone();
+        let across = case % 3;
+        let plane = random.among(0..=twin(shape).lengths[across] - 1);
+        for cell in 0..trial.flags.len() {
+            if twin(shape).coordinates(cell)[across] == plane {
+                let bytes = twin(shape).bytes(cell);
+                trial.cube[bytes.clone()].copy_from_slice(&other.cube[bytes]);
+            }
+        }
+        // Small cubes may share a plane.
+        let answer = if trial.cube == before { Ok(0) } else { Err(13) };
+        assert_eq!(trial.compare(&mut random), answer, "{shape:?}");
+    }
+}
+
+#[test]
+fn contradiction_of_the_second_sum_alone() {
+    let mut random = Random::new(3009);
+    for case in 0..600 {
+        // The same byte is added at the eight corners of a box: all first sums stay 00h.
+        let is_corner = |place: [usize; 3]| place.iter().all(|&i| i < 2);
+        let corners = Embedded::new(&mut random, [3, 3, 3], 3, is_corner);
+        let mut trial = Trial::new(&mut random, corners.shape);
+        let layer = random.among(0..=corners.shape.w - 1);
+        let wrong = random.nonzero_byte();
+        for &cell in &corners.cells {
+            trial.cube[cell * corners.shape.w + layer] ^= wrong;
+        }
+        // A corner that is lost gets the wrong byte back from the first sums of all three of its lines.
+        if case % 2 == 0 {
+            let lost = random.pick(&corners.cells);
+            trial.lose(&mut random, lost);
+        }
+        assert_eq!(trial.compare(&mut random), Err(13), "{:?}", corners.shape);
+    }
+}
+
+#[test]
+fn wrong_byte_on_lines_that_all_meet_the_stopping_set() {
+    let mut random = Random::new(3010);
+    for _ in 0..400 {
+        let set = latin(&mut random);
+        let mut trial = set.trial(&mut random);
+        let wrong = random.pick(&set.rest);
+        trial.spoil(&mut random, wrong);
+        assert_eq!(
+            trial.compare(&mut random),
+            Ok(set.cells.len()),
+            "{:?}",
+            set.shape
+        );
+    }
+}
+
+#[test]
+fn wrong_byte_on_one_line_that_misses_the_stopping_set() {
+    let mut random = Random::new(3011);
+    for _ in 0..400 {
+        let set = off_diagonal(&mut random);
+        let mut trial = set.trial(&mut random);
+        let wrong = random.pick(&set.rest);
+        trial.spoil(&mut random, wrong);
+        assert_eq!(trial.compare(&mut random), Err(13), "{:?}", set.shape);
+    }
+}
+
+/// The number of passes along one axis, 1, 2, 3 and again, until nothing is missing; none if that does not happen.
+fn passes(shape: Shape, flags: &[u8]) -> Option<usize> {
+    let mut flags = flags.to_vec();
+    let mut idle = 0;
+    for pass in 0.. {
+        if flags.iter().all(|&flag| flag == 0) {
+            return Some(pass);
+        }
+        if idle == 3 {
+            break;
+        }
+        idle += 1;
+        for line in twin(shape).lines(pass % 3 + 1) {
+            let missing = line.cells().filter(|&cell| flags[cell] == 1).count();
+            if (1..=2).contains(&missing) {
+                line.cells().for_each(|cell| flags[cell] = 0);
+                idle = 0;
+            }
+        }
+    }
+    None
+}
+
+#[test]
+fn many_passes() {
+    let mut random = Random::new(3012);
+    for case in 0..300 {
+        // Every line of the box has three cells of the pattern, or none. One known cell frees its lines, these free others,
+        // and so on.
+        let mut set = if case % 2 == 0 {
+            let n = random.among(20..=40);
+            Embedded::new(&mut random, [n, n, 3], 2, |[i, j, _]| (i + n - j) % n < 3)
+        } else {
+            let n = random.among(12..=20);
+            Embedded::new(&mut random, [n, n, n], 2, |[i, j, k]| (i + j + k) % n < 3)
+        };
+        if case % 10 < 2 {
+            let left = set.cells.len();
+            assert_eq!(set.trial(&mut random).compare(&mut random), Ok(left));
+        }
+        let known = random.among(0..=set.cells.len() - 1);
+        set.cells.swap_remove(known);
+        let trial = set.trial(&mut random);
+        assert!(passes(set.shape, &trial.flags).is_some_and(|passes| passes >= 9));
+        assert_eq!(trial.compare(&mut random), Ok(0), "{:?}", set.shape);
+    }
+}
+
+#[test]
+fn large_cubes() {
+    let mut random = Random::new(3013);
+    let in_succession = |shape: Shape| 2 * shape.l1 * shape.l2;
+    for (l1, l2, l3, w) in [
+        (69, 69, 25, 3),
+        (20, 20, 10, 397),
+        (255, 255, 3, 1),
+        (255, 3, 255, 2),
+        (3, 255, 255, 5),
+        (130, 140, 150, 1),
+        (9, 9, 9, 1024),
+        (4, 5, 255, 1024),
+    ] {
+        let shape = Shape::new(l1, l2, l3, w);
+        let right = Trial::new(&mut random, shape);
+        assert_eq!(right.compare(&mut random), Ok(0), "{shape:?}, nothing lost");
+        for percent in [5, 60, 95] {
+            let mut trial = Trial::new(&mut random, shape);
+            trial.lose_percent(&mut random, percent);
+            let answer = trial.compare(&mut random);
+            assert!(answer.is_ok(), "{shape:?}, {percent} % lost");
+        }
+        let mut trial = Trial::new(&mut random, shape);
+        let count = in_succession(shape);
+        let first = random.among(0..=trial.flags.len() - count);
+        for cell in first..first + count {
+            trial.lose(&mut random, cell);
+        }
+        assert_eq!(
+            trial.compare(&mut random),
+            Ok(0),
+            "{shape:?}, {count} from {first}"
+        );
+    }
+    // The longest chain.
+    let mut chain = Embedded::new(&mut random, [255, 255, 3], 0, |[i, j, _]| {
+        (i + 255 - j) % 255 < 3
+    });
+    chain.cells.pop();
+    assert_eq!(chain.trial(&mut random).compare(&mut random), Ok(0));
+}
+
+/// The 3 by 3 by 3 cube of document 01.
+fn first_cube(random: &mut Random) -> Trial {
+    let shape = Shape::new(3, 3, 3, 1);
+    let mut trial = Trial::new(random, shape);
+    reference::encode(twin(shape), &[0x08], &mut trial.cube).expect("the shape is good");
+    trial
+}
+
+#[test]
+fn examples_of_document_01() {
+    let mut random = Random::new(3014);
+
+    // Only (2,2,2) = 01h known.
+    let mut trial = first_cube(&mut random);
+    assert_eq!(trial.cube[26], 0x01);
+    (0..26).for_each(|cell| trial.lose(&mut random, cell));
+    assert_eq!(trial.compare(&mut random), Ok(0));
+
+    // Nothing known.
+    trial.lose(&mut random, 26);
+    assert_eq!(trial.compare(&mut random), Ok(27));
+
+    // (0,0,0) missing and (2,2,2) made 00h.
+    let mut trial = first_cube(&mut random);
+    trial.lose(&mut random, 0);
+    trial.cube[26] = 0x00;
+    assert_eq!(trial.compare(&mut random), Err(13));
+
+    // 4 by 4 by 3, missing where a ≠ b.
+    let shape = Shape::new(4, 4, 3, 1);
+    let mut trial = Trial::new(&mut random, shape);
+    for cell in 0..48 {
+        let [a, b, _] = twin(shape).coordinates(cell);
+        if a != b {
+            trial.lose(&mut random, cell);
+        }
+    }
+    assert_eq!(trial.compare(&mut random), Ok(36));
+}
+
+#[test]
+fn refusals_change_no_byte() {
+    let huge = usize::MAX;
+    let mut random = Random::new(3015);
+    // 3 by 3 by 3 cells of 2 bytes: a cube of 54 bytes, 27 flags.
+    for (l1, l2, l3, w, cube_len, flags_len, bad_flag, number) in [
+        (2, 3, 3, 2, 54, 27, None, 1),
+        (3, 2, 3, 2, 54, 27, None, 1),
+        (3, 3, 2, 2, 54, 27, None, 1),
+        (256, 3, 3, 2, 54, 27, None, 1),
+        (3, 256, 3, 2, 54, 27, None, 1),
+        (3, 3, 256, 2, 54, 27, None, 1),
+        (huge, huge, huge, huge, 54, 27, None, 1),
+        (3, 3, 3, 0, 54, 27, None, 2),
+        (3, 3, 3, 1025, 54, 27, None, 2),
+        (3, 3, 3, huge, 54, 27, None, 2),
+        (255, 255, 255, 17, 54, 27, None, 3),
+        (26, 167, 211, 293, 54, 27, None, 3),
+        (255, 255, 255, 16, 54, 27, None, 4),
+        (3, 3, 3, 2, 53, 27, None, 4),
+        (3, 3, 3, 2, 55, 27, None, 4),
+        (3, 3, 3, 2, 54, 26, None, 4),
+        (3, 3, 3, 2, 54, 28, None, 4),
+        (3, 3, 3, 2, 54, 54, None, 4),
+        (3, 3, 3, 2, 27, 27, None, 4),
+        (3, 3, 3, 2, 0, 27, None, 4),
+        (3, 3, 3, 2, 54, 0, None, 4),
+        (3, 3, 3, 2, 0, 0, None, 4),
+        (3, 3, 3, 2, 54, 27, Some((0, 2)), 5),
+        (3, 3, 3, 2, 54, 27, Some((26, 2)), 5),
+        (3, 3, 3, 2, 54, 27, Some((13, 255)), 5),
+        (3, 3, 3, 2, 54, 27, Some((26, 128)), 5),
+        // The first of several reasons counts.
+        (2, 3, 3, 0, 53, 26, Some((0, 2)), 1),
+        (255, 255, 255, 1025, 54, 27, Some((0, 2)), 2),
+        (255, 255, 255, 17, 53, 27, Some((0, 2)), 3),
+        (3, 3, 3, 2, 53, 27, Some((0, 2)), 4),
+        (3, 3, 3, 2, 54, 28, Some((27, 2)), 4),
+    ] {
+        let shape = Shape::new(l1, l2, l3, w);
+        // Garbage is no code cube, so that 13 would be the answer if nothing came before it.
+        let mut cube = Lent::garbage(&mut random, cube_len);
+        let cube_before = cube.bytes().to_vec();
+        let mut flags_before: Vec<u8> = (0..flags_len).map(|i| (i % 9 == 4) as u8).collect();
+        if let Some((place, flag)) = bad_flag {
+            flags_before[place] = flag;
+        }
+        let mut flags = Lent::new(&mut random, &flags_before);
+        let result = fill(shape, cube.bytes_mut(), flags.bytes_mut());
+        let what = format!("{shape:?}, {cube_len} and {flags_len} bytes, {bad_flag:?}");
+        assert_eq!(numbered(result), Err(number), "{what}");
+        cube.assert_holds(&cube_before, &what);
+        flags.assert_holds(&flags_before, &what);
+    }
+}
+
+#[test]
+fn contradiction_clears_only_missing_cells() {
+    let mut random = Random::new(3016);
+    let shape = Shape::new(3, 3, 3, 2);
+    let mut trial = Trial::new(&mut random, shape);
+    trial.spoil(&mut random, 26);
+    for cell in [0, 13, 14] {
+        trial.lose(&mut random, cell);
+    }
+    let mut after = trial.cube.clone();
+    for cell in [0, 13, 14] {
+        after[2 * cell..2 * cell + 2].fill(0x00);
+    }
+    let mut cube = Lent::new(&mut random, &trial.cube);
+    let mut flags = Lent::new(&mut random, &trial.flags);
+    assert_eq!(
+        numbered(fill(shape, cube.bytes_mut(), flags.bytes_mut())),
+        Err(13)
+    );
+    cube.assert_holds(&after, "cube");
+    flags.assert_holds(&trial.flags, "flags");
+}

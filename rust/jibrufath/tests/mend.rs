@@ -1,0 +1,430 @@
+//! Mending and its passes compared with the independent program: restored, refused, or another code cube.
+
+mod support;
+
+use jibrufath::{Shape, mend, mend_pass};
+use reference::field::{inverse, mul, pow};
+use reference::random::Random;
+use support::{Lent, numbered, random_shape, twin};
+
+/// What became of a damaged cube.
+#[derive(Clone, Copy, Debug, PartialEq, Eq)]
+enum Outcome {
+    Restored,
+    OtherCodeCube,
+    Refused,
+}
+
+/// How often each outcome came.
+#[derive(Debug, Default)]
+struct Tally {
+    restored: usize,
+    other: usize,
+    refused: usize,
+}
+
+impl Tally {
+    fn count(&mut self, outcome: Outcome) {
+        match outcome {
+            Outcome::Restored => self.restored += 1,
+            Outcome::OtherCodeCube => self.other += 1,
+            Outcome::Refused => self.refused += 1,
+        }
+    }
+}
+
+fn random_code_cube(random: &mut Random, shape: Shape) -> Vec<u8> {
+    let data = random.bytes(twin(shape).capacity());
+    let mut cube = vec![0; twin(shape).cube_len()];
+    reference::encode(twin(shape), &data, &mut cube).expect("the shape is good");
+    cube
+}
+
+/// Mends a damaged cube by both programs, and compares all that they leave.
+fn compare(random: &mut Random, shape: Shape, right: &[u8], damaged: &[u8]) -> Outcome {
+    let all_known = vec![0; twin(shape).cells()];
+    let cube = Lent::new(random, damaged);
+    let flags = Lent::new(random, &all_known);
+    let mut second = Lent::garbage(random, damaged.len());
+    let mut expected = second.bytes().to_vec();
+    let answer = reference::mend(twin(shape), damaged, &all_known, &mut expected);
+    let result = mend(shape, cube.bytes(), flags.bytes(), second.bytes_mut());
+    assert_eq!(numbered(result), answer, "{shape:?}");
+    second.assert_holds(&expected, &format!("{shape:?}, {answer:?}, second cube"));
+    cube.assert_holds(damaged, &format!("{shape:?}, {answer:?}, cube"));
+    flags.assert_holds(&all_known, &format!("{shape:?}, {answer:?}, flags"));
+    match answer {
+        Ok(()) if second.bytes() == right => Outcome::Restored,
+        Ok(()) => Outcome::OtherCodeCube,
+        Err(_) => Outcome::Refused,
+    }
+}
+
+/// One pass along each axis, from the same cube, by both programs.
+fn compare_passes(random: &mut Random, shape: Shape, damaged: &[u8]) {
+    for axis in 1..=3 {
+        let mut cube = Lent::new(random, damaged);
+        let mut expected = damaged.to_vec();
+        let answer = reference::mend_pass(twin(shape), axis, &mut expected);
+        let result = mend_pass(shape, axis, cube.bytes_mut());
+        assert_eq!(numbered(result), answer, "{shape:?}, axis {axis}");
+        cube.assert_holds(&expected, &format!("{shape:?}, axis {axis}"));
+    }
+}
+
+/// The cells of a box of random places along each axis: `sizes` of them.
+fn random_box(random: &mut Random, shape: Shape, sizes: [usize; 3]) -> Vec<usize> {
+    let lengths = twin(shape).lengths;
+    let places: Vec<Vec<usize>> = (0..3)
+        .map(|axis| random.different(sizes[axis].min(lengths[axis]), lengths[axis]))
+        .collect();
+    let mut cells = Vec::new();
+    for &c in &places[2] {
+        for &b in &places[1] {
+            for &a in &places[0] {
+                cells.push(twin(shape).cell([a, b, c]));
+            }
+        }
+    }
+    cells
+}
+
+/// Adds to `count` bytes of each layer, in different cells among those given. All of a layer get the same byte, or each its own.
+fn damage(random: &mut Random, shape: Shape, cube: &mut [u8], cells: &[usize], count: usize) {
+    for layer in 0..shape.w {
+        let same = random.chance(25).then(|| random.nonzero_byte());
+        for i in random.different(count, cells.len()) {
+            let wrong = same.unwrap_or_else(|| random.nonzero_byte());
+            cube[cells[i] * shape.w + layer] ^= wrong;
+        }
+    }
+}
+
+#[test]
+fn wrong_bytes_anywhere() {
+    let mut random = Random::new(4001);
+    let mut tally = Tally::default();
+    for case in 0..5_000 {
+        let shape = random_shape(&mut random);
+        let right = random_code_cube(&mut random, shape);
+        let mut damaged = right.clone();
+        let all: Vec<usize> = (0..twin(shape).cells()).collect();
+        let count = 1 + case % 12;
+        damage(&mut random, shape, &mut damaged, &all, count);
+        compare_passes(&mut random, shape, &damaged);
+        let outcome = compare(&mut random, shape, &right, &damaged);
+        // Up to seven wrong bytes a layer are always mended.
+        assert!(
+            count > 7 || outcome == Outcome::Restored,
+            "{shape:?}, {count} wrong"
+        );
+        tally.count(outcome);
+    }
+    assert!(tally.restored > 2_500 && tally.refused > 20, "{tally:?}");
+}
+
+#[test]
+fn wrong_bytes_close_together() {
+    let mut random = Random::new(4002);
+    let mut tally = Tally::default();
+    for case in 0..4_000 {
+        let shape = random_shape(&mut random);
+        let right = random_code_cube(&mut random, shape);
+        let mut damaged = right.clone();
+        let count = 1 + case % 12;
+        // A box that has room for them, and little more.
+        let sizes = loop {
+            let sizes = [0; 3].map(|_| random.among(1..=3));
+            if sizes.iter().product::<usize>() >= count {
+                break sizes;
+            }
+        };
+        let cells = random_box(&mut random, shape, sizes);
+        damage(&mut random, shape, &mut damaged, &cells, count);
+        compare_passes(&mut random, shape, &damaged);
+        let outcome = compare(&mut random, shape, &right, &damaged);
+        assert!(
+            count > 7 || outcome == Outcome::Restored,
+            "{shape:?}, {count} wrong"
+        );
+        tally.count(outcome);
+    }
+    assert!(tally.restored > 1_500 && tally.refused > 500, "{tally:?}");
+}
+
+/// Three bytes that make a right line at the three places, the rest 00h.
+fn lightest_line(places: &[usize]) -> [u8; 3] {
+    let [i, j, k] = [0, 1, 2].map(|at| pow(places[at]));
+    let scale = inverse(i ^ j).expect("the places differ");
+    [mul(j ^ k, scale), mul(i ^ k, scale), 1]
+}
+
+#[test]
+fn damage_that_leads_to_another_code_cube() {
+    let mut random = Random::new(4003);
+    let mut tally = Tally::default();
+    for _ in 0..1_200 {
+        let shape = random_shape(&mut random);
+        let right = random_code_cube(&mut random, shape);
+        let mut damaged = right.clone();
+        // The lightest code cubes have 27 bytes, the products of three lightest lines. With two of three places along each
+        // axis, or all three along one, the passes put in the others.
+        let lengths = twin(shape).lengths;
+        let places = lengths.map(|length| random.different(3, length));
+        let lines = [0, 1, 2].map(|axis| lightest_line(&places[axis]));
+        let mut part = [2; 3];
+        if random.chance(50) {
+            part[random.among(0..=2)] = 3;
+        }
+        let factor = random.nonzero_byte();
+        let layer = random.among(0..=shape.w - 1);
+        for c in 0..part[2] {
+            for b in 0..part[1] {
+                for a in 0..part[0] {
+                    let cell = twin(shape).cell([places[0][a], places[1][b], places[2][c]]);
+                    let product = mul(mul(lines[0][a], lines[1][b]), lines[2][c]);
+                    damaged[cell * shape.w + layer] ^= mul(factor, product);
+                }
+            }
+        }
+        compare_passes(&mut random, shape, &damaged);
+        tally.count(compare(&mut random, shape, &right, &damaged));
+    }
+    assert_eq!(tally.other, 1_200, "{tally:?}");
+}
+
+#[test]
+fn each_pass_has_its_share() {
+    let mut random = Random::new(4004);
+    // 01h added to the cells of a box of these sizes, and the passes that restore the cube.
+    for (sizes, first_pass_that_restores) in [
+        ([1, 1, 1], 1),
+        ([1, 2, 2], 1),
+        ([2, 1, 1], 2),
+        ([2, 1, 2], 2),
+        ([2, 2, 1], 3),
+    ] {
+        for _ in 0..100 {
+            let shape = random_shape(&mut random);
+            let right = random_code_cube(&mut random, shape);
+            let mut cube = right.clone();
+            let layer = random.among(0..=shape.w - 1);
+            for cell in random_box(&mut random, shape, sizes) {
+                cube[cell * shape.w + layer] ^= 0x01;
+            }
+            assert_eq!(
+                compare(&mut random, shape, &right, &cube),
+                Outcome::Restored
+            );
+            for axis in 1..=first_pass_that_restores {
+                assert_ne!(cube, right, "{shape:?}, {sizes:?} before axis {axis}");
+                compare_passes(&mut random, shape, &cube);
+                mend_pass(shape, axis, &mut cube).expect("the shape is good");
+            }
+            assert_eq!(cube, right, "{shape:?}, {sizes:?}");
+        }
+    }
+}
+
+#[test]
+fn passes_over_garbage() {
+    let mut random = Random::new(4005);
+    for _ in 0..1_000 {
+        let shape = random_shape(&mut random);
+        let mut garbage = random.bytes(twin(shape).cube_len());
+        // Also cubes of few bytes that are not 00h: there more lines have one sum 00h.
+        if random.chance(50) {
+            garbage
+                .iter_mut()
+                .for_each(|byte| *byte = u8::from(*byte < 20));
+        }
+        compare_passes(&mut random, shape, &garbage);
+    }
+}
+
+#[test]
+fn large_cubes() {
+    let mut random = Random::new(4006);
+    for (l1, l2, l3, w) in [
+        (69, 69, 25, 3),
+        (20, 20, 10, 397),
+        (255, 255, 3, 1),
+        (255, 3, 255, 2),
+        (3, 255, 255, 5),
+        (130, 140, 150, 1),
+        (9, 9, 9, 1024),
+        (4, 5, 255, 1024),
+    ] {
+        let shape = Shape::new(l1, l2, l3, w);
+        let right = random_code_cube(&mut random, shape);
+        assert_eq!(
+            compare(&mut random, shape, &right, &right),
+            Outcome::Restored
+        );
+        let all: Vec<usize> = (0..twin(shape).cells()).collect();
+        for count in [1, 7, 12] {
+            let mut damaged = right.clone();
+            damage(&mut random, shape, &mut damaged, &all, count);
+            compare_passes(&mut random, shape, &damaged);
+            compare(&mut random, shape, &right, &damaged);
+        }
+        let garbage = random.bytes(right.len());
+        compare_passes(&mut random, shape, &garbage);
+        assert_eq!(
+            compare(&mut random, shape, &right, &garbage),
+            Outcome::Refused
+        );
+    }
+}
+
+#[test]
+fn examples_of_document_01() {
+    let mut random = Random::new(4007);
+    let shape = Shape::new(3, 3, 3, 1);
+    let mut right = vec![0; 27];
+    reference::encode(twin(shape), &[0x08], &mut right).expect("the shape is good");
+
+    // (1,1,1) made 00h is restored to 0Fh.
+    let mut damaged = right.clone();
+    assert_eq!(damaged[13], 0x0F);
+    damaged[13] = 0x00;
+    assert_eq!(
+        compare(&mut random, shape, &right, &damaged),
+        Outcome::Restored
+    );
+
+    // A line of length 3 with sums 01h and 08h: j = 3 is past its end.
+    let byte = mul(0x09, inverse(0x03).expect("not 00h"));
+    let mut cube = [0; 27];
+    cube[..2].copy_from_slice(&[0x01 ^ byte, byte]);
+    let line = twin(shape).line_through(1, 0);
+    assert_eq!(twin(shape).sums(&cube, line), [[0x01], [0x08]]);
+    let before = cube;
+    mend_pass(shape, 1, &mut cube).expect("the shape is good");
+    assert_eq!(cube, before);
+}
+
+#[test]
+fn lines_with_every_pair_of_sums() {
+    // The first places of each line along axis 1 give it any two sums; lengths on both sides of the longest j.
+    for l1 in [3, 4, 100, 254, 255] {
+        let shape = Shape::new(l1, 3, 3, 1024);
+        let mut random = Random::new(4008);
+        for first in 0..=255u8 {
+            let mut cube = vec![0; twin(shape).cube_len()];
+            for second in 0..=255u8 {
+                // c0 + c1 = first and c0 + 2 c1 = second.
+                let c1 = mul(first ^ second, inverse(0x03).expect("not 00h"));
+                cube[usize::from(second)] = first ^ c1;
+                cube[shape.w + usize::from(second)] = c1;
+            }
+            let mut lent = Lent::new(&mut random, &cube);
+            let mut expected = cube.clone();
+            reference::mend_pass(twin(shape), 1, &mut expected).expect("the shape is good");
+            mend_pass(shape, 1, lent.bytes_mut()).expect("the shape is good");
+            lent.assert_holds(&expected, &format!("length {l1}, first sum {first:02X}h"));
+        }
+    }
+}
+
+#[test]
+fn refusals_change_no_byte() {
+    let huge = usize::MAX;
+    let mut random = Random::new(4009);
+    // 3 by 3 by 3 cells of 2 bytes: cubes of 54 bytes, 27 flags; the flags that are not 0.
+    for (l1, l2, l3, w, lens, marked, number) in [
+        (2, 3, 3, 2, [54, 27, 54], &[] as &[(usize, u8)], 1),
+        (3, 2, 3, 2, [54, 27, 54], &[], 1),
+        (3, 3, 2, 2, [54, 27, 54], &[], 1),
+        (256, 3, 3, 2, [54, 27, 54], &[], 1),
+        (3, 256, 3, 2, [54, 27, 54], &[], 1),
+        (3, 3, 256, 2, [54, 27, 54], &[], 1),
+        (huge, huge, huge, huge, [54, 27, 54], &[], 1),
+        (3, 3, 3, 0, [54, 27, 54], &[], 2),
+        (3, 3, 3, 1025, [54, 27, 54], &[], 2),
+        (3, 3, 3, huge, [54, 27, 54], &[], 2),
+        (255, 255, 255, 17, [54, 27, 54], &[], 3),
+        (26, 167, 211, 293, [54, 27, 54], &[], 3),
+        (255, 255, 255, 16, [54, 27, 54], &[], 4),
+        (3, 3, 3, 2, [53, 27, 54], &[], 4),
+        (3, 3, 3, 2, [55, 27, 54], &[], 4),
+        (3, 3, 3, 2, [54, 26, 54], &[], 4),
+        (3, 3, 3, 2, [54, 28, 54], &[], 4),
+        (3, 3, 3, 2, [54, 27, 53], &[], 4),
+        (3, 3, 3, 2, [54, 27, 55], &[], 4),
+        (3, 3, 3, 2, [0, 0, 0], &[], 4),
+        (3, 3, 3, 2, [54, 54, 54], &[], 4),
+        (3, 3, 3, 2, [54, 27, 54], &[(0, 2)], 5),
+        (3, 3, 3, 2, [54, 27, 54], &[(26, 255)], 5),
+        (3, 3, 3, 2, [54, 27, 54], &[(0, 1)], 15),
+        (3, 3, 3, 2, [54, 27, 54], &[(26, 1)], 15),
+        // 5 is asked of all flags before 15.
+        (3, 3, 3, 2, [54, 27, 54], &[(0, 1), (26, 2)], 5),
+        (3, 3, 3, 2, [54, 27, 54], &[(0, 2), (26, 1)], 5),
+        // The first of several reasons counts.
+        (2, 3, 3, 0, [53, 27, 54], &[(0, 2)], 1),
+        (255, 255, 255, 1025, [53, 27, 54], &[(0, 2)], 2),
+        (255, 255, 255, 17, [53, 27, 54], &[(0, 2)], 3),
+        (3, 3, 3, 2, [54, 27, 53], &[(0, 1), (26, 2)], 4),
+    ] {
+        let shape = Shape::new(l1, l2, l3, w);
+        let what = format!("{shape:?}, lengths {lens:?}, flags {marked:?}");
+        // Garbage is no code cube, so that 16 would be the answer if nothing came before it.
+        let [cube, _, mut second] = lens.map(|len| Lent::garbage(&mut random, len));
+        let [cube_before, second_before] = [&cube, &second].map(|lent| lent.bytes().to_vec());
+        let mut flags_before = vec![0; lens[1]];
+        for &(place, flag) in marked {
+            flags_before[place] = flag;
+        }
+        let flags = Lent::new(&mut random, &flags_before);
+        let result = mend(shape, cube.bytes(), flags.bytes(), second.bytes_mut());
+        assert_eq!(numbered(result), Err(number), "{what}");
+        cube.assert_holds(&cube_before, &what);
+        flags.assert_holds(&flags_before, &what);
+        second.assert_holds(&second_before, &what);
+    }
+}
+
+#[test]
+fn refusals_of_a_pass_change_no_byte() {
+    let huge = usize::MAX;
+    let mut random = Random::new(4010);
+    for (l1, l2, l3, w, axis, len, answer) in [
+        (3, 3, 3, 2, 1, 54, Ok(())),
+        (3, 3, 3, 2, 3, 54, Ok(())),
+        (3, 3, 3, 2, 0, 54, Err(1)),
+        (3, 3, 3, 2, 4, 54, Err(1)),
+        (3, 3, 3, 2, huge, 54, Err(1)),
+        // 1 modulo 256 and modulo 2^32.
+        (3, 3, 3, 2, 257, 54, Err(1)),
+        (3, 3, 3, 2, (1 << 32) + 1, 54, Err(1)),
+        (2, 3, 3, 2, 1, 54, Err(1)),
+        (3, 256, 3, 2, 2, 54, Err(1)),
+        (3, 3, huge, 2, 3, 54, Err(1)),
+        (3, 3, 3, 0, 1, 54, Err(2)),
+        (3, 3, 3, 1025, 2, 54, Err(2)),
+        (3, 3, 3, huge, 3, 54, Err(2)),
+        (255, 255, 255, 17, 1, 54, Err(3)),
+        (26, 167, 211, 293, 3, 54, Err(3)),
+        (255, 255, 255, 16, 1, 54, Err(4)),
+        (3, 3, 3, 2, 1, 53, Err(4)),
+        (3, 3, 3, 2, 2, 55, Err(4)),
+        (3, 3, 3, 2, 3, 0, Err(4)),
+        // The first of several reasons counts.
+        (3, 3, 3, 0, 4, 53, Err(1)),
+        (255, 255, 255, 17, 0, 54, Err(1)),
+        (3, 3, 3, 2, 4, 53, Err(1)),
+        (255, 255, 255, 1025, 1, 53, Err(2)),
+        (255, 255, 255, 17, 1, 53, Err(3)),
+    ] {
+        let shape = Shape::new(l1, l2, l3, w);
+        let what = format!("{shape:?}, axis {axis}, {len} bytes");
+        let mut cube = Lent::garbage(&mut random, len);
+        let before = cube.bytes().to_vec();
+        let result = mend_pass(shape, axis, cube.bytes_mut());
+        assert_eq!(numbered(result), answer, "{what}");
+        if answer.is_err() {
+            cube.assert_holds(&before, &what);
+        }
+    }
+}

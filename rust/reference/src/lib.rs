@@ -1,0 +1,24 @@
+//! An independent program for the packet cube, written from document 01 alone.
+//!
+//! It is made to be compared with, so it takes other ways than the library where it can: log tables for
+//! the field, linear equations for encoding and filling small cubes, another order of axes for encoding
+//! large ones, a work list for filling them. Clarity comes before speed.
+//!
+//! Each operation answers `Err(number)` with the number of document 01's table, and leaves lent memory
+//! as that document says.
+
+pub mod encode;
+pub mod field;
+pub mod fill;
+pub mod linear;
+pub mod mend;
+pub mod random;
+pub mod shape;
+
+pub use encode::{encode, read_data};
+pub use fill::fill;
+pub use mend::{mend, mend_pass};
+pub use shape::Shape;
+
+/// Cubes of at most this many cells are encoded and filled by solving the equations of all their lines.
+pub const CELLS_BY_EQUATIONS: usize = 64;
