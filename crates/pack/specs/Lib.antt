@@ -1,0 +1,3 @@
+-- What a reader of the crate `pack` must believe.
+pub mod Packs
+pub mod Reading
