@@ -74,7 +74,7 @@ stretch-end b n s l = omega (arith, suc-mul b s, mul-le-mul-right s l)
 pub layer-below : (q s t w : ℕ) → q < s → t < w → q * w + t < s * w
 layer-below q s t w lq lt = omega (arith, stretch-end q s w lq)
 
-factor-below : (a b s : ℕ) → a * s < b * s → a < b
+pub factor-below : (a b s : ℕ) → a * s < b * s → a < b
 factor-below a b s l = elim (decLt a b) [ yes m ↦ m | no n ↦ let h : b ≤ a = omega arith in absurd (omega (arith, mul-le-mul-right s h)) ]
 
 -- the bytes of a block's run lie inside the block
@@ -142,6 +142,7 @@ pub record Begins (sh : Shape) (axis m : ℕ) (l : Line) : Type 0 where
   pub first-of : firstOf sh axis m ≡ l .first
   pub next-first : firstOf sh axis (m + l .stride) ≡ l .first + l .stride * l .len
   pub earlier : (k : ℕ) (k-line : Line) (i : ℕ) → k < m → lineOf sh axis k ≡ Found k-line → i < k-line .len → k-line .first + k-line .stride * i < l .first
+  pub stride-of : l .stride ≡ strideOf sh axis
   pub some-stride : 0 < l .stride
   pub next : m + l .stride ≤ linesOf sh axis
   pub next-aligned : (m + l .stride) % strideOf sh axis ≡ 0
@@ -172,6 +173,7 @@ begins-block sh axis b v low high less =
           ∙ omega (arith, add-mul b 1 (s * n), one-mul (s * n));
       earlier = λ k k-line i lk e li.
           let same = located sh axis k k-line e .same in rw same (cell-before s n b k i stride lk (rw same at li));
+      stride-of = refl;
       some-stride = stride;
       next = next;
       next-aligned = add-mod-right (b * s) s ∙ mul-mod-left b s;

@@ -20,11 +20,11 @@ use Rattle.cube.proofs.DataString.{layer-byte}
 
 module _ (r : ℕ) (prim : Primitive r) (sh : Shape) (v : Valid sh) (ds before after : List ℕ)
     (coded : PlanesCoded r sh (sh .l3 - 2) ds before)
-    (solved : Solved r (sideRun (planeBytes sh) (sh .l3) (planeBytes sh)) (sh .l3 - 2) (sh .l3 - 1) before after) where
+    (solved : Solved r (sideRun (planeBytes sh) (sh .l3)) (sh .l3 - 2) (sh .l3 - 1) before after) where
   planes-done : (c u : ℕ) → c < sh .l3 → u < planeBytes sh
       → getD after (c * planeBytes sh + u) 0
       ≡ completed r (sh .l3) (sh .l3 - 2) (sh .l3 - 1) (λ q. getD before (q * planeBytes sh + u) 0) c
-  planes-done c u l k = side-lines r _ _ _ _ _ before after (omega arith) (omega arith) solved c u k
+  planes-done c u l k = side-lines r _ _ _ _ before after (omega arith) solved c u k
 
   -- a line inside each plane, through the bytes u 0, u 1, ..: where it is a codeword in the data planes, it is one in all
   planes-across : (m : ℕ) (u : ℕ → ℕ) → ((i : ℕ) → i < m → u i < planeBytes sh)

@@ -1,4 +1,4 @@
--- A plane is coded by its data rows, the parity of axis 2 on the data columns, then that of axis 1 on every row.
+-- A plane is coded by its data rows with their parity of axis 1, then the parity of axis 2 on every column.
 use mathlib.Core.Path.{_≡_, refl, sym, _∙_}
 use mathlib.Core.List.{List}
 use Prim.Native.Nat.{ℕ, _+_, _*_, _-_, _≤_, _<_}
@@ -11,50 +11,65 @@ use Rattle.line.specs.Run.{Solved}
 use Rattle.line.proofs.Codeword.{codeword-cong}
 use Rattle.cube.specs.declared.Shape.{Shape}
 use Rattle.cube.specs.Shapes.{Valid}
-use Rattle.cube.specs.Plane.{spot, RowsCopied, RowsCompleted, PlaneCode, planeBytes, partBytes, PlanesCoded}
-use Rattle.cube.proofs.Bytes.{stretch-end, rows-fit, spot-plane}
+use Rattle.cube.specs.Plane.{Copied, spot, RowsCoded, PlaneCode, planeBytes, partBytes, PlanesCoded}
+use Rattle.cube.proofs.Bytes.{stretch-end, spot-row, spot-plane}
 use Rattle.cube.proofs.Lending.{lent, returned, lent-at, returned-at, returned-below}
-use Rattle.cube.proofs.Copying.{rows-copied-spot}
-use Rattle.cube.proofs.Completing.{sideRun, side-lines}
+use Rattle.cube.proofs.Completing.{rowRun, row-lines, row-below, sideRun, side-lines}
 use Rattle.cube.proofs.Parity.{parity-line, parity-kept, parity-across}
 
-module _ (r : ℕ) (prim : Primitive r) (sh : Shape) (v : Valid sh) (ds placed columned coded : List ℕ)
-    (place : RowsCopied ds placed (sh .l2 - 2) ((sh .l1 - 2) * sh .w) ((sh .l1 - 2) * sh .w) (sh .l1 * sh .w))
-    (column : Solved r (sideRun (sh .l1 * sh .w) (sh .l2) ((sh .l1 - 2) * sh .w)) (sh .l2 - 2) (sh .l2 - 1) placed columned)
-    (row : RowsCompleted r (sh .l1) (sh .w) (sh .l2) columned coded) where
-  columns-done : (b u : ℕ) → b < sh .l2 → u < (sh .l1 - 2) * sh .w
-      → getD columned (b * (sh .l1 * sh .w) + u) 0
-      ≡ completed r (sh .l2) (sh .l2 - 2) (sh .l2 - 1) (λ q. getD placed (q * (sh .l1 * sh .w) + u) 0) b
-  columns-done b u l k = side-lines r _ _ _ _ _ placed columned (rows-fit sh .width) (omega arith) column b u k
+pub rows-coded-none : (r m w : ℕ) (ds xs : List ℕ) → RowsCoded r m w 0 ds xs
+rows-coded-none r m w ds xs = record { lines = λ b t l h. absurd (omega arith); holds = λ a b t l k h. absurd (omega arith) }
 
-  data-column : (a t : ℕ) → a < sh .l1 - 2 → t < sh .w → a * sh .w + t < (sh .l1 - 2) * sh .w
-  data-column a t l k = omega (arith, stretch-end a (sh .l1 - 2) (sh .w) l)
+-- one more row, copied and completed
+module _ (r : ℕ) (prim : Primitive r) (m w n : ℕ) (low : 2 ≤ m) (high : m ≤ 255) (ds before placed after : List ℕ)
+    (done : RowsCoded r m w n ds before) (copy : Copied ds before placed (n * ((m - 2) * w)) (n * (m * w)) ((m - 2) * w))
+    (solved : Solved r (rowRun m w n) (m - 2) (m - 1) placed after) where
+  new-line : (t : ℕ) → t < w → Codeword r (λ a. getD after (spot m w a n t) 0) m
+  new-line t h = parity-line r prim m w low high _ _ (row-lines r m w n placed after solved) t h
 
-  -- the data columns
-  column-codeword : (a t : ℕ) → a < sh .l1 - 2 → t < sh .w → Codeword r (λ b. getD columned (spot (sh .l1) (sh .w) a b t) 0) (sh .l2)
+  new-data : (a t : ℕ) → a < m - 2 → t < w → getD after (spot m w a n t) 0 ≡ getD ds (spot (m - 2) w a n t) 0
   unfolding spot
-  column-codeword a t l k =
-      parity-line r prim (sh .l2) ((sh .l1 - 2) * sh .w) (omega arith) (v .l2-high) _ _ columns-done (a * sh .w + t) (data-column a t l k)
+  new-data a t l h =
+      parity-kept r prim m w low high _ _ (row-lines r m w n placed after solved) a t l h
+      ∙ copy .copied (a * w + t) (omega (arith, stretch-end a (m - 2) w l))
 
-  column-data : (a b t : ℕ) → a < sh .l1 - 2 → b < sh .l2 - 2 → t < sh .w
-      → getD columned (spot (sh .l1) (sh .w) a b t) 0 ≡ getD ds (spot (sh .l1 - 2) (sh .w) a b t) 0
+  old-kept : (a b t : ℕ) → a < m → b < n → t < w → getD after (spot m w a b t) 0 ≡ getD before (spot m w a b t) 0
+  old-kept a b t l k h =
+      let less : spot m w a b t < n * (m * w) = omega (arith, spot-row m w a b t l h, stretch-end b n (m * w) k) in
+      row-below r m w n placed after solved _ less ∙ copy .below _ less
+
+  pub rows-coded-more : RowsCoded r m w (n + 1) ds after
+  rows-coded-more =
+      record {
+        lines = λ b t k h. elim (ℕ-discrete b n) [
+          | yes e ↦ rw e (new-line t h)
+          | no ne ↦ let less : b < n = omega arith in
+              codeword-cong r _ _ m (λ a l. sym (old-kept a b t l less h)) (done .lines b t less h)
+        ];
+        holds = λ a b t l k h. elim (ℕ-discrete b n) [
+          | yes e ↦ rw e (new-data a t l h)
+          | no ne ↦ let less : b < n = omega arith in
+              old-kept a b t (omega arith) less h ∙ done .holds a b t l less h
+        ];
+      }
+
+module _ (r : ℕ) (prim : Primitive r) (sh : Shape) (v : Valid sh) (ds before after : List ℕ)
+    (coded : RowsCoded r (sh .l1) (sh .w) (sh .l2 - 2) ds before)
+    (solved : Solved r (sideRun (sh .l1 * sh .w) (sh .l2)) (sh .l2 - 2) (sh .l2 - 1) before after) where
+  columns-done : (t : ℕ) → t < sh .w → (b a : ℕ) → b < sh .l2 → a < sh .l1
+      → getD after (spot (sh .l1) (sh .w) a b t) 0
+      ≡ completed r (sh .l2) (sh .l2 - 2) (sh .l2 - 1) (λ q. getD before (spot (sh .l1) (sh .w) a q t) 0) b
   unfolding spot
-  column-data a b t l k h =
-      parity-kept r prim (sh .l2) ((sh .l1 - 2) * sh .w) (omega arith) (v .l2-high) _ _ columns-done b (a * sh .w + t) k (data-column a t l h)
-      ∙ rows-copied-spot ds placed (sh .l2 - 2) (sh .l1 - 2) (sh .l1 - 2) (sh .l1) (sh .w) place a b t l k h
+  columns-done t h b a l k =
+      side-lines r _ _ _ _ before after (omega arith) solved b (a * sh .w + t) (omega (arith, stretch-end a (sh .l1) (sh .w) k))
 
-  rows-done : (t : ℕ) → t < sh .w → (a b : ℕ) → a < sh .l1 → b < sh .l2
-      → getD coded (spot (sh .l1) (sh .w) a b t) 0
-      ≡ completed r (sh .l1) (sh .l1 - 2) (sh .l1 - 1) (λ i. getD columned (spot (sh .l1) (sh .w) i b t) 0) a
-  rows-done t h a b l k = row .lines a b t l k h
-
-  pub plane-code : PlaneCode r sh (λ p. getD ds p 0) (λ p. getD coded p 0)
+  pub plane-code : PlaneCode r sh (λ p. getD ds p 0) (λ p. getD after p 0)
   plane-code =
       record {
-        rows = λ b t l h. parity-line r prim (sh .l1) (sh .l2) (omega arith) (v .l1-high) _ _ (rows-done t h) b l;
-        columns = λ a t l h. parity-across r prim (sh .l1) (sh .l2) (omega arith) (v .l1-high) _ _ (rows-done t h) (λ i k. column-codeword i t k h) a l;
+        rows = λ b t l h. parity-across r prim (sh .l2) (sh .l1) (omega arith) (v .l2-high) _ _ (columns-done t h) (λ i k. coded .lines i t k h) b l;
+        columns = λ a t l h. parity-line r prim (sh .l2) (sh .l1) (omega arith) (v .l2-high) _ _ (columns-done t h) a l;
         holds = λ a b t l k h.
-            parity-kept r prim (sh .l1) (sh .l2) (omega arith) (v .l1-high) _ _ (rows-done t h) a b l (omega arith) ∙ column-data a b t l k h;
+            parity-kept r prim (sh .l2) (sh .l1) (omega arith) (v .l2-high) _ _ (columns-done t h) b a k (omega arith) ∙ coded .holds a b t l k h;
       }
 
 -- only the bytes of the plane and of its data count

@@ -4,7 +4,7 @@ use mathlib.Core.List.{List}
 use Prim.Native.Nat.{ℕ, _+_, _-_, _*_, _≤_, _<_}
 use lib.ListN.{getD}
 use Rattle.cube.specs.declared.Shape.{Shape}
-use Rattle.line.specs.Line.{Codeword, completed}
+use Rattle.line.specs.Line.{Codeword}
 
 -- `after` is `before` with n bytes of src from `from` on written from `to` on.
 pub record Copied (src before after : List ℕ) (from to n : ℕ) : Type 0 where
@@ -27,12 +27,12 @@ partBytes sh = (sh .l1 - 2) * (sh .l2 - 2) * sh .w
 unfoldable pub spot : ℕ → ℕ → ℕ → ℕ → ℕ → ℕ
 spot m w a b t = b * (m * w) + (a * w + t)
 
--- `after` is `before` with the two last cells of each row, its parity, written. A row has m cells of w bytes.
-pub record RowsCompleted (r m w rows : ℕ) (before after : List ℕ) : Type 0 where
-  pub lines :
-      (a b t : ℕ) → a < m → b < rows → t < w →
-      getD after (spot m w a b t) 0 ≡ completed r m (m - 2) (m - 1) (λ i. getD before (spot m w i b t) 0) a
-  pub rest : (p : ℕ) → rows * (m * w) ≤ p → getD after p 0 ≡ getD before p 0
+-- The first rows of a plane, m cells of w bytes each, have the data rows of ds in their first m - 2 cells and are codewords in each layer.
+pub record RowsCoded (r m w rows : ℕ) (ds xs : List ℕ) : Type 0 where
+  pub lines : (b t : ℕ) → b < rows → t < w → Codeword r (λ a. getD xs (spot m w a b t) 0) m
+  pub holds :
+      (a b t : ℕ) → a < m - 2 → b < rows → t < w →
+      getD xs (spot m w a b t) 0 ≡ getD ds (spot (m - 2) w a b t) 0
 
 -- The plane of bytes p has the data bytes d, and each row and each column of it is a codeword in each layer.
 pub record PlaneCode (r : ℕ) (sh : Shape) (d p : ℕ → ℕ) : Type 0 where

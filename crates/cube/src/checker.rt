@@ -1,4 +1,4 @@
-// Whether a cube is a code cube: every line of every axis, in runs of neighbouring lines.
+// Whether a cube is a code cube: every line of every axis, in runs of neighbouring lines, axes 1 and 2 plane by plane, then axis 3.
 use crate::LineAnswer;
 use crate::Shape;
 use line::Run;
@@ -8,33 +8,53 @@ ghost use lib.ListN.{length};
 ghost use Rattle.field.specs.Field.{reduction};
 ghost use Rattle.cube.specs.Shapes.{Valid, cells, linesOf};
 ghost use Rattle.cube.specs.Cube.{CodeCube};
-ghost use Rattle.cube.specs.Check.{Decides, LinesRight};
+ghost use Rattle.cube.specs.Check.{Blocks, Decides, LinesRight};
 
 // Whether the lines of all three axes are codewords in every layer.
 pub(crate) fn all_right(cube: &[u8], sh: Shape) -> bool
     requires { ⌜ Valid sh × (length (now cube) ≡ sh .w * cells sh) ⌝ }
     ensures { λ r. ⌜ Decides (CodeCube reduction sh (now (cube .entry))) r ⌝ }
 {
-    if !axis_right(cube, sh, 1) {
+    if !planes_right(cube, sh) {
         return false;
     }
-    if !axis_right(cube, sh, 2) {
-        return false;
+    lines_right(cube, sh, 3, 0, sh.l1 * sh.l2)
+}
+
+// Axes 1 and 2, plane by plane while a plane is in the cache.
+fn planes_right(cube: &[u8], sh: Shape) -> bool
+    requires { ⌜ Valid sh × (length (now cube) ≡ sh .w * cells sh) ⌝ }
+    ensures { λ r. ⌜ Decides (LinesRight reduction sh 1 0 (linesOf sh 1) (now (cube .entry)) × LinesRight reduction sh 2 0 (linesOf sh 2) (now (cube .entry))) r ⌝ }
+{
+    let l1 = sh.l1;
+    let l2 = sh.l2;
+    let l3 = sh.l3;
+    let mut c = 0;
+    while c < l3 {
+        let row = c * l2;
+        let column = c * l1;
+        if !lines_right(cube, sh, 1, row, row + l2) {
+            return false;
+        }
+        if !lines_right(cube, sh, 2, column, column + l1) {
+            return false;
+        }
+        c += 1;
     }
-    axis_right(cube, sh, 3)
+    true
 }
 
 // The lines m to m + stride - 1 of an axis lie side by side, so they are one run.
-fn axis_right(cube: &[u8], sh: Shape, axis: usize) -> bool
-    requires { ⌜ Valid sh × (length (now cube) ≡ sh .w * cells sh) × (1 ≤ axis) × (axis ≤ 3) ⌝ }
-    ensures { λ r. ⌜ Decides (LinesRight reduction sh axis (linesOf sh axis) (now (cube .entry))) r ⌝ }
+fn lines_right(cube: &[u8], sh: Shape, axis: usize, from: usize, to: usize) -> bool
+    requires { ⌜ Valid sh × (length (now cube) ≡ sh .w * cells sh) × (1 ≤ axis) × (axis ≤ 3) × Blocks sh axis from to ⌝ }
+    ensures { λ r. ⌜ Decides (LinesRight reduction sh axis from to (now (cube .entry))) r ⌝ }
 {
     let w = sh.w;
-    let mut m = 0;
-    loop {
+    let mut m = from;
+    while m < to {
         let found = crate::axis_line(sh, axis, m);
         let LineAnswer::Found(l) = found else {
-            return true;
+            return false;
         };
         let stride = l.stride;
         let run = Run {
@@ -48,4 +68,5 @@ fn axis_right(cube: &[u8], sh: Shape, axis: usize) -> bool
         }
         m += stride;
     }
+    true
 }

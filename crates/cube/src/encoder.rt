@@ -1,6 +1,6 @@
 // The encoder: data rows and parity plane by plane while a plane is in the cache, then the parity planes of axis 3.
 use crate::Shape;
-use crate::rows::copy_rows;
+use crate::rows::copy;
 use line::Run;
 ghost use mathlib.Core.Path.{_≡_};
 ghost use Prim.Native.Nat.{_-_, _*_};
@@ -8,7 +8,7 @@ ghost use lib.ListN.{length, getD};
 ghost use Rattle.field.specs.Field.{reduction};
 ghost use Rattle.cube.specs.Shapes.{Valid, cells, capacity};
 ghost use Rattle.cube.specs.Cube.{CodeCube, HoldsData};
-ghost use Rattle.cube.specs.Plane.{planeBytes, partBytes, RowsCompleted, PlaneCode, PlanesCoded};
+ghost use Rattle.cube.specs.Plane.{planeBytes, partBytes, RowsCoded, PlaneCode, PlanesCoded};
 
 // Writes the code cube of a data string, both of their exact lengths.
 pub(crate) fn encode_cube(data: &[u8], cube: &mut [u8], sh: Shape)
@@ -46,36 +46,36 @@ fn encode_planes(data: &[u8], cube: &mut [u8], sh: Shape)
     }
 }
 
-// One plane: its data rows, then the parity of axis 2 on the data columns, then that of axis 1 on every row.
+// One plane: its data rows with the parity of axis 1, then the parity of axis 2 on every column.
 fn encode_plane(data: &[u8], plane: &mut [u8], sh: Shape)
     requires { ⌜ Valid sh × (length (now «data») ≡ partBytes sh) × (length (now plane) ≡ planeBytes sh) ⌝ }
     ensures { λ r. ⌜ PlaneCode reduction sh (λ p. getD (now («data» .entry)) p 0) (λ p. getD (now (plane .exit)) p 0) ⌝ }
 {
     let row = sh.l1 * sh.w;
-    let width = (sh.l1 - 2) * sh.w;
     let l2 = sh.l2;
-    copy_rows(data, plane, l2 - 2, width, width, row);
+    encode_rows(data, plane, sh);
     let run = Run {
         first: 0,
         stride: row,
         len: l2,
-        width: width,
+        width: row,
     };
     line::solve(plane, run, l2 - 2, l2 - 1);
-    encode_rows(plane, sh);
 }
 
-// The parity of axis 1 on every row of a plane.
-fn encode_rows(plane: &mut [u8], sh: Shape)
-    requires { ⌜ Valid sh × (length (now plane) ≡ planeBytes sh) ⌝ }
-    ensures { λ r. ⌜ RowsCompleted reduction (sh .l1) (sh .w) (sh .l2) (now (plane .entry)) (now (plane .exit)) ⌝ }
+// The rows of a plane that hold data, each with its parity while it is in the cache.
+fn encode_rows(data: &[u8], plane: &mut [u8], sh: Shape)
+    requires { ⌜ Valid sh × (length (now «data») ≡ partBytes sh) × (length (now plane) ≡ planeBytes sh) ⌝ }
+    ensures { λ r. ⌜ RowsCoded reduction (sh .l1) (sh .w) (sh .l2 - 2) (now («data» .entry)) (now (plane .exit)) ⌝ }
 {
     let row = sh.l1 * sh.w;
+    let width = (sh.l1 - 2) * sh.w;
     let l1 = sh.l1;
     let w = sh.w;
-    let rows = sh.l2;
+    let rows = sh.l2 - 2;
     let mut b = 0;
     while b < rows {
+        copy(data, plane, b * width, b * row, width);
         let run = Run {
             first: b * row,
             stride: w,

@@ -25,9 +25,12 @@ use Rattle.line.specs.Run.{lineAt, Inside, CodewordsOutcome}
 use Rattle.line.proofs.Codeword.{codeword-cong}
 use Rattle.field.specs.Field.{reduction}
 use Rattle.stopping.specs.Stopping.{onLine}
-use Rattle.cube.specs.Flags.{missing}
+use Rattle.stopping.proofs.Stopping.{onLine-none}
+use Rattle.cube.specs.Calls.{CheckOutcome}
+use Rattle.cube.specs.Flags.{missing, noneMissing}
 use Rattle.fill.specs.State.{Sized, Places, Right, AxisRight, AllRight, Decides}
 use Rattle.fill.proofs.Clearing.{cell-room}
+use Rattle.fill.proofs.Marks.{none-missing}
 
 -- ---- layers
 
@@ -184,3 +187,20 @@ module _ (sh : Shape) (xs fs : List ℕ) where
   pub axis-last : Valid sh → AxisRight sh xs fs 1 → AxisRight sh xs fs 2 → (b : Bool) → Decides (AxisRight sh xs fs 3) b → Decides (AllRight sh xs fs) b
   axis-last v one two b d =
       record { yes-then = λ e. all-right v one two (d .yes-then e); no-then = λ e r. d .no-then e (axis-right 3 r) }
+
+-- where no cell is missing every line counts
+pub all-right-code : (sh : Shape) (xs fs : List ℕ) → Sized sh xs fs → noneMissing fs ≡ true → (b : Bool) → CheckOutcome sh xs b
+    → Decides (AllRight sh xs fs) b
+unfolding AllRight Right
+all-right-code sh xs fs z none b o =
+    record {
+      yes-then = λ e first stride len l n. o .code e .lines first stride len l;
+      no-then = λ e r.
+          false≢true
+          (sym e
+          ∙ o .yes-when (z .valid)
+          (record {
+            size = z .bytes;
+            lines = λ first stride len l. r first stride len l (onLine-none (missing fs) first stride len (λ i m. none-missing fs none (first + stride * i)));
+          }));
+    }

@@ -1,20 +1,20 @@
--- Flags: whether all are valid, and the flags of filled cells given a value one after the other.
+-- Flags: whether all are valid, whether none is 1, and the flags of filled cells given a value one after the other.
 use mathlib.Core.Path.{_≡_, refl, sym, ap, _∙_}
-use mathlib.Core.Bool.{true, false}
+use mathlib.Core.Bool.{true, false, not}
 use mathlib.Core.List.{List, [], _∷_}
 use mathlib.Core.Logic.{_≢_, _⊎_, ⊎-elim}
 use Prim.Native.Nat.{ℕ, zero, suc, _+_, _≤_, _<_}
 use native.Mathlib.Numerals.{add-one}
 use native.Mathlib.Decide.{ℕ-discrete}
 use native.Mathlib.Omega.{arith}
-use borrow.Author.Tests.{leb-true, le-leb, eqb-true, eqb-false, eq-eqb, ne-eqb}
+use borrow.Author.Tests.{not-true, leb-true, le-leb, eqb-true, eqb-false, eq-eqb, ne-eqb}
 use lib.Dec.{leb, eqb}
 use lib.ListN.{length, getD, set, length-set}
 use lib.Seq.{getD-set-same, getD-set-other}
 use Rattle.cube.proofs.Valid.{both-parts, both-true}
 use Rattle.stopping.specs.Stopping.{number}
 use Rattle.stopping.proofs.Number.{number-in, number-out, number-cong, number-remove}
-use Rattle.cube.specs.Flags.{missing, flagsValid}
+use Rattle.cube.specs.Flags.{missing, flagsValid, noneMissing}
 use Rattle.fill.specs.State.{filled, Remarked}
 
 -- ---- flags 0 and 1
@@ -29,6 +29,14 @@ pub flags-valid : (fs : List ℕ) → ((n : ℕ) → n < length fs → getD fs n
 unfolding flagsValid
 flags-valid [] h = refl
 flags-valid (f ∷ fs) h = both-true (leb f 1) (flagsValid fs) (le-leb f 1 (h 0 (omega arith))) (flags-valid fs (λ n l. h (suc n) (omega arith)))
+
+-- ---- no flag 1
+
+pub none-missing : (fs : List ℕ) → noneMissing fs ≡ true → (n : ℕ) → missing fs n ≡ false
+unfolding noneMissing missing
+none-missing [] e n = refl
+none-missing (f ∷ fs) e zero = not-true (eqb f 1) (both-parts (not (eqb f 1)) (noneMissing fs) e .0)
+none-missing (f ∷ fs) e (suc n) = none-missing fs (both-parts (not (eqb f 1)) (noneMissing fs) e .1) n
 
 -- ---- the flags of filled cells
 

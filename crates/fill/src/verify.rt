@@ -8,7 +8,18 @@ ghost use Prim.Native.Nat.{_≤_};
 ghost use Rattle.cube.specs.Shapes.{IsLine};
 ghost use Rattle.fill.specs.State.{Sized, Right, AxisRight, AllRight, Decides};
 
+// Where no cell is missing every line counts, and the check of a whole cube is faster: it takes the lines in wide runs.
 pub(crate) fn verify(cube: &[u8], flags: &[u8], sh: Shape) -> bool
+    requires { ⌜ Sized sh (now cube) (now flags) ⌝ }
+    ensures { λ r. ⌜ Decides (AllRight sh (now (cube .entry)) (now (flags .entry))) r ⌝ }
+{
+    if cube::flags::none_missing(flags) {
+        return cube::is_code_cube(cube, sh);
+    }
+    verify_lines(cube, flags, sh)
+}
+
+fn verify_lines(cube: &[u8], flags: &[u8], sh: Shape) -> bool
     requires { ⌜ Sized sh (now cube) (now flags) ⌝ }
     ensures { λ r. ⌜ Decides (AllRight sh (now (cube .entry)) (now (flags .entry))) r ⌝ }
 {

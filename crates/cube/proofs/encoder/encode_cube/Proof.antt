@@ -48,7 +48,7 @@ returns c =
     let after : length (solved .solve .last .0) ≡ sh .w * cells sh = omega (arith, solved .solve .kept .0) in
     let run =
     outcome-solved _ _ _ _ _ _ _ (solved .solve .ensures)
-    (side-inside _ _ _ _ (omega arith) (omega arith) (omega arith) (omega (arith, planes-fill sh)))
+    (side-inside _ _ _ (omega arith) (omega arith) (omega (arith, planes-fill sh)))
     (omega arith) (omega arith) in (
       code-cube _ primitive sh (start .pre .0) _ _ _ (coded .encode-planes .ensures) run after,
       planes-held-data sh _ _ (start .pre .1) (data-held _ primitive sh (start .pre .0) _ _ _ (coded .encode-planes .ensures) run),

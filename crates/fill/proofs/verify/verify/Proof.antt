@@ -1,38 +1,27 @@
--- `fill::verify::verify` tells whether every line without a missing cell is a codeword in every layer: the lines of the three axes are all lines.
-use borrow.Author.Tests.{not-true, not-false}
-use Rattle.fill.proofs.Lines.{axis-wrong, axis-last}
+-- `fill::verify::verify` tells whether every line without a missing cell is a codeword in every layer: where no cell is missing, whether the
+-- cube is a code cube.
+use mathlib.Core.Path.{sym, _∙_}
 use borrow.Author.Needs.{needs}
+use Rattle.fill.proofs.Lines.{all-right-code}
 use Rattle.fill.proofs.verify.verify.Statement.{statement}
 use Rattle.fill.proofs.verify.verify.Tie as tie
 
-verify-axis-requires : tie.Need-verify-axis-requires
-verify-axis-requires c κs = search needs
+none-missing-requires : tie.Need-none-missing-requires
+none-missing-requires c κs = search needs
+
+is-code-cube-requires : tie.Need-is-code-cube-requires
+is-code-cube-requires c κs = search needs
 
 returns : tie.Need-returns
-returns c = axis-wrong _ _ _ 1 (c .before .verify-axis .ensures .no-then (not-true _ (c .if1 .taken)))
+returns c =
+    all-right-code _ _ _ (c .before .before .before .before .before .pre) (sym (c .before .before .none-missing .ensures) ∙ c .before .if1 .taken) _
+    (c .is-code-cube .ensures)
 
-verify-axis-requires-2 : tie.Need-verify-axis-requires-2
-verify-axis-requires-2 c κs = search needs
+verify-lines-requires : tie.Need-verify-lines-requires
+verify-lines-requires c κs = search needs
 
 returns-2 : tie.Need-returns-2
-returns-2 c = axis-wrong _ _ _ 2 (c .before .verify-axis2 .ensures .no-then (not-true _ (c .if2 .taken)))
-
-verify-axis-requires-3 : tie.Need-verify-axis-requires-3
-verify-axis-requires-3 c κs = search needs
-
-returns-3 : tie.Need-returns-3
-returns-3 c =
-    axis-last _ _ _ (c .before .before .before .before .before .before .before .pre .valid)
-    (c .before .before .before .before .verify-axis .ensures .yes-then (not-false _ (c .before .before .before .if1 .left)))
-    (c .before .before .verify-axis2 .ensures .yes-then (not-false _ (c .before .if2 .left))) _ (c .verify-axis3 .ensures)
+returns-2 c = c .verify-lines .ensures
 
 pub verify-spec : {M : Type 1} → statement M
-verify-spec =
-    tie.close
-    (tie.spec
-    verify-axis-requires
-    returns
-    verify-axis-requires-2
-    returns-2
-    verify-axis-requires-3
-    returns-3)
+verify-spec = tie.close (tie.spec none-missing-requires is-code-cube-requires returns verify-lines-requires returns-2)

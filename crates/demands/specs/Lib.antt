@@ -1,0 +1,2 @@
+-- What a reader of the crate `demands` must believe.
+pub mod Demand

@@ -1,0 +1,1 @@
+// The third demand: what writer and receiver promise together, stated over the whole list of packets, with no code.

@@ -1,0 +1,108 @@
+-- Runs of bytes copied, compared and tested, one more at a time.
+use mathlib.Core.Path.{_≡_, refl, sym, ap, _∙_}
+use mathlib.Core.Bool.{true, false, false≢true}
+use mathlib.Core.List.{List}
+use mathlib.Core.Logic.{_≢_}
+use Prim.Native.Nat.{ℕ, zero, _+_, _*_, _/_, _≤_, _<_}
+use native.Mathlib.Nat.{mul-le-mul-right}
+use native.Mathlib.Decide.{ℕ-discrete}
+use native.Mathlib.Omega.{arith}
+use lib.Arith.{bin-ind}
+use lib.Bits.{bitOr, or-step, or-zero-l}
+use lib.Dec.{eqb}
+use lib.ListN.{length, getD, set, replicate, length-set, length-replicate, getD-replicate}
+use lib.Seq.{getD-set-same, getD-set-other, ext-getD}
+use borrow.Author.Tests.{eqb-true, eqb-false}
+use Rattle.receiver.specs.Runs.{Copied, Compared, Zeros}
+
+-- from two constructors that are said to be one anything follows
+pub clash : {X : Type 0} → _≡_ {A = ℕ} 0 1 → X
+clash z = absurd (omega arith)
+
+-- the stretch from a * k on ends at or before n * k
+pub stretch-end : (a n k : ℕ) → a < n → a * k + k ≤ n * k
+stretch-end a n k l = omega (arith, mul-le-mul-right k l)
+
+pub copied-none : (src dst : List ℕ) (from to : ℕ) → Copied src from dst to 0 dst
+copied-none src dst from to = record { size = refl; copied = λ i l. absurd (omega arith); below = λ p l. refl; above = λ p l. refl }
+
+pub copied-more : (src before after : List ℕ) (from to n : ℕ) → to + n < length after → Copied src from before to n after
+    → Copied src from before to (n + 1) (set after (to + n) (getD src (from + n) 0))
+copied-more src before after from to n room h =
+    record {
+      size = length-set after (to + n) (getD src (from + n) 0) ∙ h .size;
+      copied = λ i l. elim (ℕ-discrete i n) [
+        | yes e ↦ ap (λ (k : ℕ). getD (set after (to + n) (getD src (from + n) 0)) (to + k) 0) e
+            ∙ getD-set-same after (to + n) (getD src (from + n) 0) 0 room ∙ ap (λ (k : ℕ). getD src (from + k) 0) (sym e)
+        | no ne ↦ other (to + i) (omega arith) ∙ h .copied i (omega arith)
+      ];
+      below = λ p l. other p (omega arith) ∙ h .below p l;
+      above = λ p l. other p (omega arith) ∙ h .above p (omega arith);
+    }
+  where
+    other : (p : ℕ) → (p ≡ to + n → ⊥) → getD (set after (to + n) (getD src (from + n) 0)) p 0 ≡ getD after p 0
+    other p ne = getD-set-other after (to + n) p (getD src (from + n) 0) 0 ne
+
+-- ---- runs compared
+
+pub compared-equal : (xs ys : List ℕ) (from to n : ℕ) → ((i : ℕ) → i < n → getD xs (from + i) 0 ≡ getD ys (to + i) 0)
+    → Compared xs from ys to n true
+compared-equal xs ys from to n h = record { equal = λ _. h; unequal = λ e. absurd (false≢true (sym e)) }
+
+pub compared-unequal : (xs ys : List ℕ) (from to n i : ℕ) → i < n → getD xs (from + i) 0 ≢ getD ys (to + i) 0
+    → Compared xs from ys to n false
+compared-unequal xs ys from to n i l ne = record { equal = λ e. absurd (false≢true e); unequal = λ _. (i, l, ne) }
+
+-- ---- bytes gathered by or
+
+or-zero : (a b : ℕ) → bitOr a b ≡ 0 → (a ≡ 0) × (b ≡ 0)
+or-zero =
+    bin-ind (λ (a : ℕ). (b : ℕ) → bitOr a b ≡ 0 → (a ≡ 0) × (b ≡ 0)) (λ b e. (refl, sym (or-zero-l b) ∙ e))
+    (λ a ih b e.
+    let step = or-step a b in
+    let (p, q) = ih (b / 2) (omega arith) in
+    (omega arith, omega arith))
+
+-- the bytes below n are gathered in one
+pub record Gathered (xs : List ℕ) (from n any : ℕ) : Type 0 where
+  pub zero : any ≡ 0 → (i : ℕ) → i < n → getD xs (from + i) 0 ≡ 0
+  pub nonzero : any ≢ 0 → (i : ℕ) × (i < n) × (getD xs (from + i) 0 ≢ 0)
+
+pub gathered-none : (xs : List ℕ) (from : ℕ) → Gathered xs from 0 0
+gathered-none xs from = record { zero = λ e i l. absurd (omega arith); nonzero = λ ne. absurd (ne refl) }
+
+pub gathered-more : (xs : List ℕ) (from n any : ℕ) → Gathered xs from n any → Gathered xs from (n + 1) (bitOr any (getD xs (from + n) 0))
+gathered-more xs from n any h =
+    record {
+      zero = λ e i l.
+          let (p, q) = or-zero any (getD xs (from + n) 0) e in
+          elim (ℕ-discrete i n) [
+            | yes same ↦ rw same q
+            | no ne ↦ h .zero p i (omega arith)
+          ];
+      nonzero = λ ne. elim (ℕ-discrete any 0) [
+        | yes e ↦ (n, omega arith, λ z. ne (ap (λ (k : ℕ). bitOr k (getD xs (from + n) 0)) e ∙ or-zero-l _ ∙ z))
+        | no some ↦ let (i, l, u) = h .nonzero some in (i, omega arith, u)
+      ];
+    }
+
+pub gathered-zeros : (xs : List ℕ) (from n any : ℕ) → Gathered xs from n any → Zeros xs from n (eqb any 0)
+gathered-zeros xs from n any h =
+    record { zero = λ e. h .zero (eqb-true any 0 e); nonzero = λ e. h .nonzero (eqb-false any 0 e) }
+
+-- ---- a slice of one byte
+
+pub set-below : (s : List ℕ) (n v : ℕ) → n < length s → ((i : ℕ) → i < n → getD s i 0 ≡ v) → (i : ℕ) → i < n + 1 → getD (set s n v) i 0 ≡ v
+set-below s n v room h i l =
+    elim (ℕ-discrete i n) [
+      | yes e ↦ rw e (getD-set-same s n v 0 room)
+      | no ne ↦ getD-set-other s n i v 0 ne ∙ h i (omega arith)
+    ]
+
+pub all-replicate : (s : List ℕ) (n v : ℕ) → length s ≡ n → ((i : ℕ) → i < n → getD s i 0 ≡ v) → s ≡ replicate n v
+all-replicate s n v size h =
+    ext-getD 0 s (replicate n v) (size ∙ sym (length-replicate n v))
+    (λ i l. let less : i < n = omega arith in h i less ∙ sym (getD-replicate n i v 0 less))
+
+pub replicate-size : (s : List ℕ) (n v : ℕ) → s ≡ replicate n v → length s ≡ n
+replicate-size s n v e = ap length e ∙ length-replicate n v

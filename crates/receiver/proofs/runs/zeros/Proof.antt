@@ -1,0 +1,50 @@
+-- `zeros` gathers the bytes in one, which is 00h exactly when all are.
+use native.Mathlib.Omega.{arith}
+use mathlib.Core.Path.{_≡_}
+use Prim.Native.Nat.{_≤_, _-_}
+use Rattle.receiver.proofs.Bytes.{Gathered, gathered-none, gathered-more, gathered-zeros}
+use Rattle.receiver.proofs.runs.zeros.Statement.{statement}
+use Rattle.receiver.proofs.runs.zeros.Tie as tie
+
+abbrev Inv-loop : tie.InvT-loop
+Inv-loop s from n any₀ i₀ any i = (i ≤ n) × Gathered s from i any
+
+abbrev μ-loop : tie.MeasureT-loop
+μ-loop s from n any₀ i₀ any i = n - i
+
+loop-holds : tie.Need-loop-holds Inv-loop μ-loop
+loop-holds c = (omega arith, gathered-none _ _)
+
+add-any : tie.Need-add-any Inv-loop μ-loop
+add-any c = omega arith
+
+shared-slice-read-any : tie.Need-shared-slice-read-any Inv-loop μ-loop
+shared-slice-read-any c = omega arith
+
+add-i : tie.Need-add-i Inv-loop μ-loop
+add-i c = omega arith
+
+loop-less : tie.Need-loop-less Inv-loop μ-loop
+loop-less c = omega arith
+
+loop-again : tie.Need-loop-again Inv-loop μ-loop
+loop-again c = (omega arith, gathered-more _ _ _ _ (c .before .before .loop .inv .1))
+
+returns : tie.Need-returns Inv-loop μ-loop
+returns c =
+    let all : c .before .loop .i ≡ c .before .before .args .n = omega arith in
+    gathered-zeros _ _ _ _ (rw all at (c .before .loop .inv .1))
+
+pub zeros-spec : {M : Type 1} → statement M
+zeros-spec =
+    tie.close
+    (tie.spec
+    Inv-loop
+    μ-loop
+    loop-holds
+    add-any
+    shared-slice-read-any
+    add-i
+    loop-less
+    loop-again
+    returns)

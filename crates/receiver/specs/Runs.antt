@@ -1,0 +1,30 @@
+-- Runs of bytes of a slice: copied, compared, tested for 00h.
+use mathlib.Core.Path.{_≡_}
+use mathlib.Core.Bool.{Bool, true, false}
+use mathlib.Core.List.{List}
+use mathlib.Core.Logic.{_≢_}
+use Prim.Native.Nat.{ℕ, _+_, _≤_, _<_}
+use lib.ListN.{length, getD}
+
+-- n bytes from `from` on are copied to `to` on, and every other byte is kept
+pub record Copied (src : List ℕ) (from : ℕ) (before : List ℕ) (to n : ℕ) (after : List ℕ) : Type 0 where
+  pub size : length after ≡ length before
+  pub copied : (i : ℕ) → i < n → getD after (to + i) 0 ≡ getD src (from + i) 0
+  pub below : (p : ℕ) → p < to → getD after p 0 ≡ getD before p 0
+  pub above : (p : ℕ) → to + n ≤ p → getD after p 0 ≡ getD before p 0
+
+-- whether n bytes of two slices agree
+pub record Compared (xs : List ℕ) (from : ℕ) (ys : List ℕ) (to n : ℕ) (r : Bool) : Type 0 where
+  pub equal : r ≡ true → (i : ℕ) → i < n → getD xs (from + i) 0 ≡ getD ys (to + i) 0
+  pub unequal : r ≡ false → (i : ℕ) × (i < n) × (getD xs (from + i) 0 ≢ getD ys (to + i) 0)
+
+-- whether n bytes are 00h
+pub record Zeros (xs : List ℕ) (from n : ℕ) (r : Bool) : Type 0 where
+  pub zero : r ≡ true → (i : ℕ) → i < n → getD xs (from + i) 0 ≡ 0
+  pub nonzero : r ≡ false → (i : ℕ) × (i < n) × (getD xs (from + i) 0 ≢ 0)
+
+-- how many places of a run of `size` from `base` on lie before `from`
+pub record Clipped (from base size r : ℕ) : Type 0 where
+  pub inside : r ≤ size
+  pub before : (y : ℕ) → y < r → base + y < from
+  pub behind : (y : ℕ) → r ≤ y → y < size → from ≤ base + y
