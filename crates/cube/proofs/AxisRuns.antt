@@ -20,8 +20,8 @@ use Rattle.cube.specs.declared.Measured.the-variants.{Fits, Misfit}
 use Rattle.cube.specs.declared.Refusal.{Refusal}
 use Rattle.cube.specs.declared.Refusal.the-variants.{Plain}
 use Rattle.cube.specs.declared.Fault.the-variants.{Dimension}
-use Rattle.cube.specs.Shapes.{Valid, within, cells, measured, strideOf, lengthOf, linesOf, firstOf, lineOf, lineIn as lineChecked}
-use Rattle.cube.specs.Cube.{layer, lineIn}
+use Rattle.cube.specs.Shapes.{Valid, within, cells, measured, strideOf, lengthOf, linesOf, firstOf, lineOf, lineIn}
+use Rattle.cube.specs.Cube.{layer, layerLine}
 use Rattle.cube.proofs.Valid.{within-parts, measured-fits}
 use Rattle.cube.proofs.Geometry.{outerOf, linesOf-outer, cells-outer, strideOf-pos, lengthOf-low, lengthOf-high, line-of}
 use Rattle.line.specs.declared.Run.{Run}
@@ -40,9 +40,9 @@ found-passed : (b : Bool) (x : LineAnswer) (f : Refusal) (l : Line) → cond b x
 found-passed true x f l e = (refl, e)
 found-passed false x f l e = let n : _≡_ {A = ℕ} 0 1 = cc in absurd (omega arith)
 
-shape-passed : (sh : Shape) (axis m : ℕ) (x : Measured) (l : Line) → x ≡ measured sh → lineChecked sh axis m x ≡ Found l
+shape-passed : (sh : Shape) (axis m : ℕ) (x : Measured) (l : Line) → x ≡ measured sh → lineIn sh axis m x ≡ Found l
     → Valid sh × (m < linesOf sh axis) × (l ≡ record { first = firstOf sh axis m; stride = strideOf sh axis; len = lengthOf sh axis })
-unfolding lineChecked
+unfolding lineIn
 shape-passed sh axis m (Misfit f) l p e = let n : _≡_ {A = ℕ} 0 1 = cc in absurd (omega arith)
 shape-passed sh axis m (Fits z) l p e =
     let (less, same) = found-passed (ltb m (linesOf sh axis)) _ (Plain Dimension) l e in
@@ -133,8 +133,8 @@ lineBeside l q = record { first = l .first + q; stride = l .stride; len = l .len
 
 -- layer t of line q of a block
 pub lineAt-run : (sh : Shape) (xs : List ℕ) (l : Line) (q t i : ℕ)
-    → lineAt xs (runFrom (sh .w) l) (q * sh .w + t) i ≡ lineIn sh xs t (l .first + q) (l .stride) i
-unfolding lineAt lineIn layer runFrom
+    → lineAt xs (runFrom (sh .w) l) (q * sh .w + t) i ≡ layerLine sh xs t (l .first + q) (l .stride) i
+unfolding lineAt layerLine layer runFrom
 lineAt-run sh xs l q t i = ap (λ (p : ℕ). getD xs p 0) (simp (add-mul, mul-assoc, mul-comm, mul-left-comm, add-assoc, add-comm, add-left-comm))
 
 -- line m is the first of a block

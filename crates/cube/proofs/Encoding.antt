@@ -10,7 +10,7 @@ use Rattle.line.specs.Run.{Solved}
 use Rattle.line.proofs.Codeword.{codeword-cong}
 use Rattle.cube.specs.declared.Shape.{Shape}
 use Rattle.cube.specs.Shapes.{Valid, cells, IsLine, axis1, axis2, axis3}
-use Rattle.cube.specs.Cube.{layer, lineIn, CodeCube}
+use Rattle.cube.specs.Cube.{layer, layerLine, CodeCube}
 use Rattle.cube.specs.Plane.{spot, planeBytes, PlanesCoded, PlanesHeld}
 use Rattle.cube.proofs.Geometry.{axis1-cell, axis2-cell, axis3-cell}
 use Rattle.cube.proofs.Bytes.{spot-plane}
@@ -33,8 +33,8 @@ module _ (r : ℕ) (prim : Primitive r) (sh : Shape) (v : Valid sh) (ds before a
   planes-across m u inside h c l =
       parity-across r prim (sh .l3) m (omega arith) (v .l3-high) _ _ (λ q i k n. planes-done q (u i) k (inside i n)) h c l
 
-  line-codeword : (first stride len : ℕ) → IsLine sh first stride len → (t : ℕ) → t < sh .w → Codeword r (lineIn sh after t first stride) len
-  unfolding lineIn
+  line-codeword : (first stride len : ℕ) → IsLine sh first stride len → (t : ℕ) → t < sh .w → Codeword r (layerLine sh after t first stride) len
+  unfolding layerLine
   line-codeword _ _ _ (axis1 b c l k) t h =
       codeword-cong r _ _ (sh .l1) (λ a m. sym (ap (layer sh after t) (axis1-cell sh b c a) ∙ layer-byte sh after a b c t))
       (planes-across (sh .l1) (λ a. spot (sh .l1) (sh .w) a b t) (λ a m. spot-plane (sh .l1) (sh .l2) (sh .w) a b t m l h)

@@ -9,7 +9,7 @@ use lib.ListN.{length, getD}
 use lib.Seq.{ext-getD}
 use Rattle.cube.specs.declared.Shape.{Shape}
 use Rattle.cube.specs.Shapes.{Valid, cells, capacity, cell, IsLine, axis1, axis2, axis3}
-use Rattle.cube.specs.Cube.{layer, lineIn, CodeCube, HoldsData}
+use Rattle.cube.specs.Cube.{layer, layerLine, CodeCube, HoldsData}
 use Rattle.cube.proofs.Geometry.{cell-coordinates, third-lt, axis1-cell, axis2-cell, axis3-cell, line-length-low, line-length-high}
 use Rattle.field.specs.Field.{Primitive}
 use Rattle.line.proofs.Codeword.{codeword-unique}
@@ -41,9 +41,9 @@ module _ (r : ℕ) (p : Primitive r) (sh : Shape) (valid : Valid sh) (xs ys : Li
   line-agrees : (f s n w : ℕ) → IsLine sh f s n → w < sh .w
       → ((i : ℕ) → i < n - 2 → layer sh xs w (f + s * i) ≡ layer sh ys w (f + s * i))
       → (i : ℕ) → i < n → layer sh xs w (f + s * i) ≡ layer sh ys w (f + s * i)
-  unfolding layer lineIn
+  unfolding layer layerLine
   line-agrees f s n w l h same =
-      codeword-unique r (lineIn sh xs w f s) (lineIn sh ys w f s) n (n - 2) (n - 1) p (line-length-high sh f s n valid l)
+      codeword-unique r (layerLine sh xs w f s) (layerLine sh ys w f s) n (n - 2) (n - 1) p (line-length-high sh f s n valid l)
       (λ i _. bx _) (λ i _. by _) (cx .lines f s n l w h) (cy .lines f s n l w h)
       (λ i g d e. same i (omega (arith, line-length-low sh f s n valid l)))
 

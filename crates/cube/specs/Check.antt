@@ -7,7 +7,7 @@ use Rattle.cube.specs.declared.Shape.{Shape}
 use Rattle.cube.specs.declared.Line.{Line}
 use Rattle.cube.specs.declared.LineAnswer.the-variants.{Found}
 use Rattle.cube.specs.Shapes.{lineOf, linesOf, strideOf}
-use Rattle.cube.specs.Cube.{lineIn}
+use Rattle.cube.specs.Cube.{layerLine}
 use Rattle.line.specs.Line.{Codeword}
 
 -- the answer is true exactly where P holds
@@ -19,7 +19,7 @@ pub record Decides (P : Type 0) (answer : Bool) : Type 0 where
 pub record LinesRight (r : ℕ) (sh : Shape) (axis from to : ℕ) (xs : List ℕ) : Type 0 where
   pub lines :
       (m : ℕ) (l : Line) → from ≤ m → m < to → lineOf sh axis m ≡ Found l →
-      (w : ℕ) → w < sh .w → Codeword r (lineIn sh xs w (l .first) (l .stride)) (l .len)
+      (w : ℕ) → w < sh .w → Codeword r (layerLine sh xs w (l .first) (l .stride)) (l .len)
 
 -- the lines of an axis between two numbers are whole blocks of neighbouring lines
 pub record Blocks (sh : Shape) (axis from to : ℕ) : Type 0 where

@@ -12,15 +12,15 @@ unfoldable pub layer : Shape → List ℕ → ℕ → ℕ → ℕ
 layer sh xs w n = getD xs (n * sh .w + w) 0
 
 -- a line of a layer, from place to byte
-unfoldable pub lineIn : Shape → List ℕ → ℕ → ℕ → ℕ → ℕ → ℕ
-lineIn sh xs w first stride i = layer sh xs w (first + stride * i)
+unfoldable pub layerLine : Shape → List ℕ → ℕ → ℕ → ℕ → ℕ → ℕ
+layerLine sh xs w first stride i = layer sh xs w (first + stride * i)
 
 -- "A cube is a code cube when every line of every axis is right in every layer."
 pub record CodeCube (r : ℕ) (sh : Shape) (xs : List ℕ) : Type 0 where
   pub size : length xs ≡ sh .w * cells sh
   pub lines :
       (first stride len : ℕ) → IsLine sh first stride len →
-      (w : ℕ) → w < sh .w → Codeword r (lineIn sh xs w first stride) len
+      (w : ℕ) → w < sh .w → Codeword r (layerLine sh xs w first stride) len
 
 -- "Data cells in cell order, W bytes each, hold the data string": data cell (a,b,c) is number a + (L1-2) × (b + (L2-2) × c) among the data cells.
 pub record HoldsData (sh : Shape) (xs ds : List ℕ) : Type 0 where

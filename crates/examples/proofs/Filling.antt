@@ -21,7 +21,7 @@ use Rattle.cube.specs.declared.Shape.{Shape}
 use Rattle.cube.specs.declared.Fault.the-variants.{Contradiction}
 use Rattle.cube.specs.declared.Refusal.the-variants.{Plain}
 use Rattle.cube.specs.Shapes.{both, cells, cell, measured, IsLine}
-use Rattle.cube.specs.Cube.{layer, lineIn}
+use Rattle.cube.specs.Cube.{layer, layerLine}
 use Rattle.cube.proofs.Valid.{both-parts}
 use Rattle.cube.proofs.Geometry.{line-cell-lt}
 use Rattle.fill.specs.declared.FillAnswer.the-variants.{Left, Impossible}
@@ -112,13 +112,13 @@ rightOff? r sh S v = allLines sh (λ first stride len. implies (eqb (onLine S fi
 
 rightOff?-sound : (r : ℕ) (sh : Shape) (S : ℕ → Bool) (v : List ℕ) → rightOff? r sh S v ≡ true
     → (first stride len : ℕ) → IsLine sh first stride len → onLine S first stride len ≡ 0
-    → (w : ℕ) → w < sh .w → Codeword r (lineIn sh v w first stride) len
+    → (w : ℕ) → w < sh .w → Codeword r (layerLine sh v w first stride) len
 unfolding rightOff?
 rightOff?-sound r sh S v h f s n l z = line?-sound r sh v f s n (implies-sound _ _ (allLines-sound sh _ h f s n l) (eq-eqb _ _ z))
 
 rightOff?-true : (r : ℕ) (sh : Shape) (S : ℕ → Bool) (v : List ℕ)
     → ((first stride len : ℕ) → IsLine sh first stride len → onLine S first stride len ≡ 0
-    → (w : ℕ) → w < sh .w → Codeword r (lineIn sh v w first stride) len)
+    → (w : ℕ) → w < sh .w → Codeword r (layerLine sh v w first stride) len)
     → rightOff? r sh S v ≡ true
 unfolding rightOff?
 rightOff?-true r sh S v h =
@@ -146,8 +146,8 @@ filling?-sound r sh xs M K v h =
 -- a filling has the cube's bytes on a line of known cells
 line-agrees : {r : ℕ} {sh : Shape} {xs : List ℕ} {M K : ℕ → Bool} {v : List ℕ} → Filling r sh xs M K v
     → (first stride len : ℕ) → IsLine sh first stride len → onLine M first stride len ≡ 0
-    → (w : ℕ) → w < sh .w → (i : ℕ) → i < len → lineIn sh v w first stride i ≡ lineIn sh xs w first stride i
-unfolding lineIn
+    → (w : ℕ) → w < sh .w → (i : ℕ) → i < len → layerLine sh v w first stride i ≡ layerLine sh xs w first stride i
+unfolding layerLine
 line-agrees {sh = sh} {M = M} filling f s n l z w m i q =
     filling .known (f + s * i) w (line-cell-lt sh f s n i l q) m (onLine-zero M f s n z i q)
 
@@ -156,12 +156,12 @@ known-right : (r : ℕ) (sh : Shape) (xs : List ℕ) (M K : ℕ → Bool) (v : L
     → rightOff? r sh M xs ≡ true
 known-right r sh xs M K v u filling = rightOff?-true r sh M xs lines
   where
-    lines : (f s n : ℕ) → IsLine sh f s n → onLine M f s n ≡ 0 → (w : ℕ) → w < sh .w → Codeword r (lineIn sh xs w f s) n
+    lines : (f s n : ℕ) → IsLine sh f s n → onLine M f s n ≡ 0 → (w : ℕ) → w < sh .w → Codeword r (layerLine sh xs w f s) n
     lines f s n l z w m =
         let none : onLine K f s n ≡ 0 =
         omega (arith, onLine-mono K M f s n (λ i q. u .stopping .inside (f + s * i) (line-cell-lt sh f s n i l q)))
         in
-        codeword-cong r (lineIn sh v w f s) (lineIn sh xs w f s) n (line-agrees filling f s n l z w m) (filling .lines f s n l none w m)
+        codeword-cong r (layerLine sh v w f s) (layerLine sh xs w f s) n (line-agrees filling f s n l z w m) (filling .lines f s n l none w m)
 
 -- ---- what `fill` answers and leaves
 

@@ -12,7 +12,7 @@ use Rattle.stopping.specs.Stopping.{number, onLine}
 use Rattle.stopping.proofs.Peeling.{has, listed, clear, few, peels, peelLine, pass, stable, peeled, largest}
 use Rattle.stopping.proofs.CubeLines.{table, grid, lines1, lines2, lines3, cubeLines}
 use Rattle.cube.specs.Shapes.{cells, capacity, both, within, lengthsFit, sizes, measured, cell, strideOf, lengthOf, linesOf, firstOf}
-use Rattle.cube.specs.Cube.{layer, lineIn}
+use Rattle.cube.specs.Cube.{layer, layerLine}
 use Rattle.cube.specs.Flags.{missing, noneMissing, flagsValid}
 use Rattle.cube.proofs.Valid.{both-parts}
 use Rattle.fill.specs.Fill.{flagsChecked}
@@ -59,7 +59,7 @@ each?-sound (e ∷ es) h =
 -- the test of the whole list computes; it opens the list, then what encoding, filling and mending compute by
 examples-pass : each? examples ≡ true
 unfolding examples smallest planes made wider diagonal diagonals each? holds?
-    add reduction xtime mulBits mul pow syndrome0 syndrome1 cells capacity cell layer lineIn both all all₂ allLines codeword? line? codeCube? holdsData?
+    add reduction xtime mulBits mul pow syndrome0 syndrome1 cells capacity cell layer layerLine both all all₂ allLines codeword? line? codeCube? holdsData?
     within lengthsFit sizes measured missing flagsValid flagsChecked number onLine implies same done?
     has listed clear few peels peelLine pass stable peeled largest table grid lines1 lines2 lines3 cubeLines peeledOf largest? leaves?
     bytes? kept? zero? rightOff? filling? filled? contradicts?

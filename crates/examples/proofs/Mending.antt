@@ -22,8 +22,8 @@ use Rattle.cube.specs.declared.Refusal.the-variants.{Plain}
 use Rattle.cube.specs.declared.Measured.{Measured}
 use Rattle.cube.specs.declared.Measured.the-variants.{Fits, Misfit}
 use Rattle.cube.specs.declared.Answer.the-variants.{Done}
-use Rattle.cube.specs.Shapes.{both, within, measured, strideOf, lengthOf, linesOf, firstOf, lineOf, lineIn as lineChecked}
-use Rattle.cube.specs.Cube.{layer, lineIn, CodeCube}
+use Rattle.cube.specs.Shapes.{both, within, measured, strideOf, lengthOf, linesOf, firstOf, lineOf, lineIn}
+use Rattle.cube.specs.Cube.{layer, layerLine, CodeCube}
 use Rattle.cube.proofs.Valid.{both-parts}
 use Rattle.cube.proofs.Geometry.{line-found}
 use Rattle.mend.specs.Mend.{Pass, correctChecked, CorrectOutcome}
@@ -39,9 +39,9 @@ found-passed : (b : Bool) (x : LineAnswer) (f : Refusal) (l : Line) → cond b x
 found-passed true x f l e = (refl, e)
 found-passed false x f l e = let n : _≡_ {A = ℕ} 0 1 = cc in absurd (omega arith)
 
-found-checked : (sh : Shape) (axis m : ℕ) (x : Measured) (l : Line) → lineChecked sh axis m x ≡ Found l
+found-checked : (sh : Shape) (axis m : ℕ) (x : Measured) (l : Line) → lineIn sh axis m x ≡ Found l
     → (m < linesOf sh axis) × (l ≡ lineNumber sh axis m)
-unfolding lineChecked lineNumber
+unfolding lineIn lineNumber
 found-checked sh axis m (Misfit f) l e = let n : _≡_ {A = ℕ} 0 1 = cc in absurd (omega arith)
 found-checked sh axis m (Fits z) l e =
     let (less, same) = found-passed (ltb m (linesOf sh axis)) _ (Plain Dimension) l e in
@@ -55,7 +55,7 @@ found-line sh axis m l e = found-checked sh axis m (measured sh) l (found-passed
 -- ys has the corrected line l of xs in layer w
 unfoldable pub corrects? : ℕ → Shape → (xs ys : List ℕ) → Line → ℕ → Bool
 corrects? r sh xs ys l w =
-    all (l .len) (λ i. eqb (layer sh ys w (l .first + l .stride * i)) (corrected r (l .len) (lineIn sh xs w (l .first) (l .stride)) i))
+    all (l .len) (λ i. eqb (layer sh ys w (l .first + l .stride * i)) (corrected r (l .len) (layerLine sh xs w (l .first) (l .stride)) i))
 
 unfoldable pub pass? : ℕ → Shape → ℕ → (xs ys : List ℕ) → Bool
 pass? r sh axis xs ys =
@@ -77,7 +77,7 @@ pass?-sound r sh axis xs ys h =
 
 -- a pass keeps a code cube
 code-cube-pass : (r : ℕ) (sh : Shape) (axis : ℕ) (xs : List ℕ) → CodeCube r sh xs → Pass r sh axis xs xs
-unfolding lineIn
+unfolding layerLine
 code-cube-pass r sh axis xs code =
     record {
       size = refl;

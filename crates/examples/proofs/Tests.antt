@@ -13,7 +13,7 @@ use Rattle.cube.specs.declared.Shape.{Shape}
 use Rattle.cube.specs.declared.Answer.{Answer}
 use Rattle.cube.specs.declared.Answer.the-variants.{Done, Refused}
 use Rattle.cube.specs.Shapes.{both, cells, capacity, cell, IsLine, axis1, axis2, axis3}
-use Rattle.cube.specs.Cube.{layer, lineIn, CodeCube, HoldsData}
+use Rattle.cube.specs.Cube.{layer, layerLine, CodeCube, HoldsData}
 use Rattle.cube.proofs.Valid.{both-parts, both-true}
 use Rattle.line.specs.Line.{syndrome0, syndrome1, Codeword}
 
@@ -138,15 +138,15 @@ codeword?-true r c n w = both-true _ _ (eq-eqb _ _ (w .first)) (eq-eqb _ _ (w .s
 
 -- a line in every layer
 unfoldable pub line? : ℕ → Shape → List ℕ → ℕ → ℕ → ℕ → Bool
-line? r sh xs first stride len = all (sh .w) (λ w. codeword? r (lineIn sh xs w first stride) len)
+line? r sh xs first stride len = all (sh .w) (λ w. codeword? r (layerLine sh xs w first stride) len)
 
 pub line?-sound : (r : ℕ) (sh : Shape) (xs : List ℕ) (first stride len : ℕ) → line? r sh xs first stride len ≡ true
-    → (w : ℕ) → w < sh .w → Codeword r (lineIn sh xs w first stride) len
+    → (w : ℕ) → w < sh .w → Codeword r (layerLine sh xs w first stride) len
 unfolding line?
 line?-sound r sh xs f s n h w l = codeword?-sound r _ n (all-sound (sh .w) _ h w l)
 
 pub line?-true : (r : ℕ) (sh : Shape) (xs : List ℕ) (first stride len : ℕ)
-    → ((w : ℕ) → w < sh .w → Codeword r (lineIn sh xs w first stride) len) → line? r sh xs first stride len ≡ true
+    → ((w : ℕ) → w < sh .w → Codeword r (layerLine sh xs w first stride) len) → line? r sh xs first stride len ≡ true
 unfolding line?
 line?-true r sh xs f s n h = all-true (sh .w) _ (λ w l. codeword?-true r _ n (h w l))
 

@@ -16,8 +16,8 @@ use Rattle.cube.specs.declared.Fault.the-variants.{Dimension}
 use Rattle.cube.specs.declared.Refusal.{Refusal}
 use Rattle.cube.specs.declared.Refusal.the-variants.{Plain}
 use Rattle.cube.specs.declared.LineAnswer.the-variants.{Found, Refused}
-use Rattle.cube.specs.Shapes.{Valid, IsLine, linesOf, lineOf}
-use Rattle.cube.specs.Cube.{layer, lineIn}
+use Rattle.cube.specs.Shapes.{Valid, IsLine, linesOf, lineIn, lineOf}
+use Rattle.cube.specs.Cube.{layer, layerLine}
 use Rattle.cube.proofs.Valid.{within-true, fits-measured, area-le}
 use Rattle.cube.proofs.Geometry.{line-of, line-found, line-every, line-cell-lt, line-stride-pos, line-length-low, line-length-high}
 use Rattle.line.specs.declared.Run.{Run}
@@ -41,8 +41,8 @@ run-of sh first stride len = record { first = first * sh .w; stride = stride * s
 pub run-place : (w first stride i : ℕ) → first * w + stride * w * i ≡ (first + stride * i) * w
 run-place w first stride i = omega arith
 
-pub run-layer : (sh : Shape) (xs : List ℕ) (first stride len t i : ℕ) → lineAt xs (run-of sh first stride len) t i ≡ lineIn sh xs t first stride i
-unfolding lineAt lineIn layer
+pub run-layer : (sh : Shape) (xs : List ℕ) (first stride len t i : ℕ) → lineAt xs (run-of sh first stride len) t i ≡ layerLine sh xs t first stride i
+unfolding lineAt layerLine layer
 run-layer sh xs first stride len t i = ap (λ (p : ℕ). getD xs (p + t) 0) (run-place (sh .w) first stride i)
 
 module _ (sh : Shape) (xs fs : List ℕ) (z : Sized sh xs fs) (first stride len : ℕ) (l : IsLine sh first stride len) where
@@ -97,7 +97,7 @@ module _ (sh : Shape) (xs fs : List ℕ) (z : Sized sh xs fs) (first stride len 
 -- ---- the lines of an axis
 
 pub line-none : (sh : Shape) (axis m : ℕ) → Valid sh → 1 ≤ axis → axis ≤ 3 → linesOf sh axis ≤ m → lineOf sh axis m ≡ Refused (Plain Dimension)
-unfolding lineOf Rattle.cube.specs.Shapes.lineIn
+unfolding lineOf lineIn
 line-none sh axis m v p q h = rw (within-true 1 3 axis p q, fits-measured sh v, le-ltb m (linesOf sh axis) h)
 
 pub line-found-lt : (sh : Shape) (axis m : ℕ) (l : Line) → Valid sh → 1 ≤ axis → axis ≤ 3 → lineOf sh axis m ≡ Found l → m < linesOf sh axis

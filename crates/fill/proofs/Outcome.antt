@@ -14,7 +14,7 @@ use Rattle.cube.specs.declared.Fault.the-variants.{Contradiction}
 use Rattle.cube.specs.declared.Refusal.the-variants.{Plain}
 use Rattle.cube.specs.declared.Answer.the-variants.{Done}
 use Rattle.cube.specs.Shapes.{cells, measured, IsLine}
-use Rattle.cube.specs.Cube.{layer, lineIn}
+use Rattle.cube.specs.Cube.{layer, layerLine}
 use Rattle.line.proofs.Codeword.{codeword-cong}
 use Rattle.field.specs.Field.{reduction}
 use Rattle.stopping.specs.Stopping.{number, Largest}
@@ -124,9 +124,9 @@ module _ (sh : Shape) (xs fs zs ys gs : List ℕ) (done : flagsChecked (measured
       (λ n w l m e. f .known n w l m e ∙ sym (c .known n w l m e))
 
   pub filling-right : (v : List ℕ) → Filling reduction sh xs (missing fs) (missing gs) v → AllRight sh ys gs
-  unfolding AllRight Right lineIn Agrees
+  unfolding AllRight Right layerLine Agrees
   filling-right v f first stride len l e w m =
-      codeword-cong reduction (lineIn sh v w first stride) (lineIn sh ys w first stride) len
+      codeword-cong reduction (layerLine sh v w first stride) (layerLine sh ys w first stride) len
       (λ i b.
       filling-agrees v f (first + stride * i) w (cube-fits sh first stride len l i b) m (onLine-zero (missing gs) first stride len e i b))
       (f .lines first stride len l e w m)

@@ -11,7 +11,7 @@ use lib.ListN.{length, getD, set, length-set}
 use lib.Seq.{getD-set-other}
 use Rattle.cube.specs.declared.Shape.{Shape}
 use Rattle.cube.specs.Shapes.{Valid, cells, IsLine}
-use Rattle.cube.specs.Cube.{layer, lineIn}
+use Rattle.cube.specs.Cube.{layer, layerLine}
 use Rattle.cube.proofs.Geometry.{line-cell-lt, line-places-differ}
 use Rattle.line.specs.Line.{Codeword}
 use Rattle.line.specs.Run.{lineAt, Off, Solved}
@@ -167,13 +167,13 @@ module _ (sh : Shape) (xs fs ys : List ℕ) (z : Sized sh xs fs) (bytes : (p : �
   line-few = omega (arith, s .number)
 
   -- what agrees before, and is a codeword on the line in layer t, is the line afterwards
-  forced : (v : List ℕ) → ((p : ℕ) → getD v p 0 < 256) → (t : ℕ) → t < sh .w → Codeword reduction (lineIn sh v t first stride) len
+  forced : (v : List ℕ) → ((p : ℕ) → getD v p 0 < 256) → (t : ℕ) → t < sh .w → Codeword reduction (layerLine sh v t first stride) len
       → Agrees sh xs (missing fs) v → (i : ℕ) → i < len → layer sh v t (first + stride * i) ≡ layer sh ys t (first + stride * i)
-  unfolding Agrees lineIn lineAt layer
+  unfolding Agrees layerLine lineAt layer
   forced v bv t b w a i q =
       sym
       (solved-forced reduction (run-of sh first stride len) j k xs ys primitive (run-inside sh xs fs z first stride len l) o (s .order some)
-      (s .bound some) t b (λ m h. bytes _) (lineIn sh v t first stride) (λ m h. bv _) w
+      (s .bound some) t b (λ m h. bytes _) (layerLine sh v t first stride) (λ m h. bv _) w
       (λ m h nj nk.
       a (first + stride * m) t (line-cell-lt sh first stride len m l h) b (s .others few m h nj nk)
       ∙ sym (run-layer sh xs first stride len t m)) i q)

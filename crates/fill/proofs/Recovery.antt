@@ -14,7 +14,7 @@ use Rattle.cube.specs.declared.Fault.the-variants.{Contradiction}
 use Rattle.cube.specs.declared.Refusal.the-variants.{Plain}
 use Rattle.cube.specs.declared.Answer.the-variants.{Done}
 use Rattle.cube.specs.Shapes.{Valid, cells, cell, measured, IsLine}
-use Rattle.cube.specs.Cube.{layer, lineIn, CodeCube}
+use Rattle.cube.specs.Cube.{layer, layerLine, CodeCube}
 use Rattle.cube.proofs.Valid.{volume-le}
 use Rattle.cube.proofs.Geometry.{line-cell-lt}
 use Rattle.line.proofs.Codeword.{codeword-cong}
@@ -89,7 +89,7 @@ module _ (sh : Shape) (K : ℕ → Bool) (xs : List ℕ) (size : length xs ≡ s
 code-filling : (sh : Shape) (xs X : List ℕ) (M K : ℕ → Bool) → length xs ≡ sh .w * cells sh → CodeCube reduction sh X
     → ((p : ℕ) → getD X p 0 < 256) → ((n w : ℕ) → n < cells sh → w < sh .w → M n ≡ false → layer sh xs w n ≡ layer sh X w n)
     → ((n : ℕ) → n < cells sh → K n ≡ true → M n ≡ true) → Filling reduction sh xs M K (without sh K X)
-unfolding lineIn
+unfolding layerLine
 code-filling sh xs X M K size code bytes known inside =
     record {
       size = cleared .size ∙ code .size ∙ sym size;
@@ -98,7 +98,7 @@ code-filling sh xs X M K size code bytes known inside =
           cleared .known n w l b (not-true-false (K n) (λ k. true≢false (sym (inside n l k) ∙ e))) ∙ sym (known n w l b e);
       left = cleared .missing;
       lines = λ first stride len l z w b.
-          codeword-cong reduction (lineIn sh X w first stride) (lineIn sh (without sh K X) w first stride) len
+          codeword-cong reduction (layerLine sh X w first stride) (layerLine sh (without sh K X) w first stride) len
           (λ i m. sym (cleared .known (first + stride * i) w (line-cell-lt sh first stride len i l m) b (onLine-zero K first stride len z i m)))
           (code .lines first stride len l w b);
     }

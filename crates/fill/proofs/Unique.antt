@@ -17,7 +17,7 @@ use Rattle.cube.specs.declared.Refusal.{Refusal}
 use Rattle.cube.specs.declared.Answer.{Answer}
 use Rattle.cube.specs.declared.Answer.the-variants.{Done, Refused}
 use Rattle.cube.specs.Shapes.{Valid, cells, measured, IsLine}
-use Rattle.cube.specs.Cube.{layer, lineIn}
+use Rattle.cube.specs.Cube.{layer, layerLine}
 use Rattle.cube.proofs.Geometry.{cell-lt-cells, line-cell-lt, line-length-high}
 use Rattle.cube.proofs.Unique.{cells-ext}
 use Rattle.line.proofs.Codeword.{codeword-unique}
@@ -63,9 +63,9 @@ module _ (r : ℕ) (p : Primitive r) (sh : Shape) (valid : Valid sh) (xs : List 
     line-same : (first stride len : ℕ) → IsLine sh first stride len → onLine K first stride len ≡ 0 → (j k : ℕ)
         → ((i : ℕ) → i < len → i ≢ j → i ≢ k → union K (differs sh v u w) (first + stride * i) ≡ false)
         → (i : ℕ) → i < len → layer sh v w (first + stride * i) ≡ layer sh u w (first + stride * i)
-    unfolding lineIn layer
+    unfolding layerLine layer
     line-same first stride len l z j k others =
-        codeword-unique r (lineIn sh v w first stride) (lineIn sh u w first stride) len j k p (line-length-high sh first stride len valid l)
+        codeword-unique r (layerLine sh v w first stride) (layerLine sh u w first stride) len j k p (line-length-high sh first stride len valid l)
         (λ i m. f .bytes _) (λ i m. g .bytes _) (f .lines first stride len l z w b) (g .lines first stride len l z w b)
         (λ i m nj nk.
         differs-no sh v u w (first + stride * i)

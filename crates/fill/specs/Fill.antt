@@ -1,9 +1,9 @@
 -- Filling (document 01, "Filling"): iterative erasure decoding of a cube, and what the call `fill` answers and leaves for every input.
 use mathlib.Core.Path.{_≡_}
 use mathlib.Core.Bool.{Bool, true, false, cond}
-use mathlib.Core.List.{List, [], _∷_}
+use mathlib.Core.List.{List}
 use Prim.Native.Nat.{ℕ, _<_}
-use lib.Dec.{eqb, leb}
+use lib.Dec.{eqb}
 use lib.ListN.{length, getD}
 use Rattle.cube.specs.declared.Shape.{Shape}
 use Rattle.cube.specs.declared.Fault.the-variants.{SliceLength, FlagValue, Contradiction}
@@ -14,7 +14,7 @@ use Rattle.cube.specs.declared.Measured.the-variants.{Fits, Misfit}
 use Rattle.cube.specs.declared.Answer.{Answer}
 use Rattle.cube.specs.declared.Answer.the-variants.{Done, Refused}
 use Rattle.cube.specs.Shapes.{both, cells, measured, IsLine}
-use Rattle.cube.specs.Cube.{layer, lineIn}
+use Rattle.cube.specs.Cube.{layer, layerLine}
 use Rattle.cube.specs.Flags.{missing, flagsValid}
 use Rattle.line.specs.Line.{Codeword}
 use Rattle.field.specs.Field.{reduction}
@@ -39,7 +39,7 @@ pub record Filling (r : ℕ) (sh : Shape) (xs : List ℕ) (M K : ℕ → Bool) (
   pub left : (n w : ℕ) → n < cells sh → w < sh .w → K n ≡ true → layer sh v w n ≡ 0
   pub lines :
       (first stride len : ℕ) → IsLine sh first stride len → onLine K first stride len ≡ 0 →
-      (w : ℕ) → w < sh .w → Codeword r (lineIn sh v w first stride) len
+      (w : ℕ) → w < sh .w → Codeword r (layerLine sh v w first stride) len
 
 -- "missing cells 00h": the cube with each missing cell cleared
 pub record Cleared (sh : Shape) (xs : List ℕ) (M : ℕ → Bool) (v : List ℕ) : Type 0 where

@@ -11,7 +11,7 @@ use Rattle.cube.specs.declared.Shape.{Shape}
 use Rattle.cube.specs.declared.Line.{Line}
 use Rattle.cube.specs.declared.LineAnswer.the-variants.{Found}
 use Rattle.cube.specs.Shapes.{Valid, cells, lineOf, IsLine}
-use Rattle.cube.specs.Cube.{layer, lineIn}
+use Rattle.cube.specs.Cube.{layer, layerLine}
 use Rattle.line.specs.Line.{Codeword}
 use Rattle.field.specs.Field.{reduction}
 use Rattle.stopping.specs.Stopping.{number, onLine, Stopping}
@@ -65,7 +65,7 @@ pub record Scanned (M : ℕ → Bool) (start stride len count first last : ℕ) 
 unfoldable pub Right : Shape → List ℕ → List ℕ → ℕ → ℕ → ℕ → Type 0
 Right sh xs fs first stride len =
     onLine (missing fs) first stride len ≡ 0 →
-    (w : ℕ) → w < sh .w → Codeword reduction (lineIn sh xs w first stride) len
+    (w : ℕ) → w < sh .w → Codeword reduction (layerLine sh xs w first stride) len
 
 -- the same of the lines of an axis, and of all lines
 unfoldable pub AxisRight : Shape → List ℕ → List ℕ → ℕ → Type 0
@@ -98,7 +98,7 @@ pub record CodeOff (sh : Shape) (K : ℕ → Bool) (v : List ℕ) : Type 0 where
   pub bytes : (p : ℕ) → getD v p 0 < 256
   pub lines :
       (first stride len : ℕ) → IsLine sh first stride len → onLine K first stride len ≡ 0 →
-      (w : ℕ) → w < sh .w → Codeword reduction (lineIn sh v w first stride) len
+      (w : ℕ) → w < sh .w → Codeword reduction (layerLine sh v w first stride) len
 
 -- Peeling leads from one cube and its flags to another: filled cells are marked, all others keep byte and flag; no stopping set loses a cell; and
 -- whatever is right on every line without a cell of a stopping set K agrees with the cube afterwards where it agreed before.

@@ -1,4 +1,7 @@
-// The calls that C and Rust link: shapes as four numbers, answers as one.
+// The calls that C and Rust link: shapes as four numbers, answers as one. Cubes and the field are here, packs and sizes in their modules.
+mod packs;
+mod sizes;
+
 use cube::Answer;
 use cube::Shape;
 use fill::FillAnswer;
@@ -133,7 +136,7 @@ pub extern "C" fn jibrufath_pow(i: u8) -> u8
 }
 
 // An answer as its number.
-fn number(answer: Answer) -> u64
+pub(crate) fn number(answer: Answer) -> u64
     ensures { λ r. ⌜ r ≡ answerNumber answer ⌝ }
 {
     match answer {

@@ -11,7 +11,7 @@ use Rattle.cube.specs.declared.Shape.{Shape}
 use Rattle.cube.specs.declared.Line.{Line}
 use Rattle.cube.specs.declared.LineAnswer.the-variants.{Found}
 use Rattle.cube.specs.Shapes.{Valid, linesOf, firstOf, lineOf}
-use Rattle.cube.specs.Cube.{layer, lineIn}
+use Rattle.cube.specs.Cube.{layer, layerLine}
 use Rattle.cube.proofs.AxisRuns.{Located, located, Begins, runFrom, lineBeside, lineAt-run, beside-is, layer-below, run-end}
 use Rattle.mend.specs.Mend.{Pass}
 use Rattle.line.specs.Line.{corrected, syndrome0, syndrome1}
@@ -27,7 +27,7 @@ pub record Through (r : ℕ) (sh : Shape) (axis n : ℕ) (xs ys : List ℕ) : Ty
   pub lines :
       (m : ℕ) (l : Line) → m < n → lineOf sh axis m ≡ Found l → (w i : ℕ) → w < sh .w → i < l .len →
       layer sh ys w (l .first + l .stride * i) ≡
-      corrected r (l .len) (lineIn sh xs w (l .first) (l .stride)) i
+      corrected r (l .len) (layerLine sh xs w (l .first) (l .stride)) i
   pub rest : (p : ℕ) → firstOf sh axis n * sh .w ≤ p → getD ys p 0 ≡ getD xs p 0
 
 module _ (r : ℕ) (sh : Shape) (axis : ℕ) (xs : List ℕ) where
@@ -48,16 +48,16 @@ module _ (r : ℕ) (sh : Shape) (axis : ℕ) (xs : List ℕ) where
     unfolding runFrom Off
     after-kept p le = run .kept p (λ i li. inr (omega (arith, run-end (l .first) (l .stride) (l .len) (sh .w) i li)))
 
-    unchanged : (q t i : ℕ) → lineIn sh ys t (l .first + q) (l .stride) i ≡ lineIn sh xs t (l .first + q) (l .stride) i
-    unfolding lineIn layer
+    unchanged : (q t i : ℕ) → layerLine sh ys t (l .first + q) (l .stride) i ≡ layerLine sh xs t (l .first + q) (l .stride) i
+    unfolding layerLine layer
     unchanged q t i = h .rest ((l .first + q + l .stride * i) * sh .w + t) (rw (b .first-of) (omega (arith, mul-le-mul-right (sh .w) further)))
       where
         further : l .first ≤ l .first + q + l .stride * i
         further = omega arith
 
     block-corrected : (q t i : ℕ) → q < l .stride → t < sh .w → i < l .len
-        → layer sh zs t (l .first + q + l .stride * i) ≡ corrected r (l .len) (lineIn sh xs t (l .first + q) (l .stride)) i
-    unfolding lineIn runFrom
+        → layer sh zs t (l .first + q + l .stride * i) ≡ corrected r (l .len) (layerLine sh xs t (l .first + q) (l .stride)) i
+    unfolding layerLine runFrom
     block-corrected q t i lq lt li =
         sym (lineAt-run sh zs l q t i)
         ∙ run .lines (q * sh .w + t) (layer-below q (l .stride) t (sh .w) lq lt) i li

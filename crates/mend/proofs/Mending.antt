@@ -19,7 +19,7 @@ use Rattle.cube.specs.declared.Refusal.{Refusal}
 use Rattle.cube.specs.declared.Answer.{Answer}
 use Rattle.cube.specs.declared.Answer.the-variants.{Done, Refused}
 use Rattle.cube.specs.Shapes.{Valid, cells, strideOf, lengthOf, lineOf}
-use Rattle.cube.specs.Cube.{layer, lineIn, CodeCube}
+use Rattle.cube.specs.Cube.{layer, layerLine, CodeCube}
 use Rattle.cube.proofs.Geometry.{placeAt-lt, strideOf-pos, lengthOf-low, On, placeOn, on-place, line-through, line-of, line-found, line-length-high}
 use Rattle.cube.proofs.AxisRuns.{Located, located}
 use Rattle.mend.specs.Mend.{Pass, Passes, PassOutcome, CorrectOutcome, refused, mended, uncorrected}
@@ -51,7 +51,7 @@ module _ (sh : Shape) (v : Valid sh) (axis : ℕ) (low : 1 ≤ axis) (high : axi
 
     -- a code cube is left as it is
     pub code-cube-kept : (ys : List ℕ) → CodeCube r sh xs → Pass r sh axis xs ys → ys ≡ xs
-    unfolding lineIn
+    unfolding layerLine
     code-cube-kept ys code p =
         lines-ext xs ys size (p .size)
         (λ m l e w i lw li.
@@ -59,7 +59,7 @@ module _ (sh : Shape) (v : Valid sh) (axis : ℕ) (low : 1 ≤ axis) (high : axi
 
     -- and is its own pass
     pub code-cube-pass : CodeCube r sh xs → Pass r sh axis xs xs
-    unfolding lineIn
+    unfolding layerLine
     code-cube-pass code =
         record {
           size = refl;
@@ -72,8 +72,8 @@ module _ (r : ℕ) (prim : Primitive r) (sh : Shape) (axis : ℕ) (xs zs : List 
     (code : CodeCube r sh zs) where
   corrected-restored : (m : ℕ) (l : Line) → lineOf sh axis m ≡ Found l → (w : ℕ) → w < sh .w → (j : ℕ) → j < l .len
       → ((i : ℕ) → i < l .len → i ≢ j → layer sh xs w (l .first + l .stride * i) ≡ layer sh zs w (l .first + l .stride * i))
-      → (i : ℕ) → i < l .len → corrected r (l .len) (lineIn sh xs w (l .first) (l .stride)) i ≡ layer sh zs w (l .first + l .stride * i)
-  unfolding layer lineIn
+      → (i : ℕ) → i < l .len → corrected r (l .len) (layerLine sh xs w (l .first) (l .stride)) i ≡ layer sh zs w (l .first + l .stride * i)
+  unfolding layer layerLine
   corrected-restored m l e w lw j lj agree i li =
       let line = line-found sh axis m l e in
       corrected-one r (l .len) _ _ j (code .lines _ _ _ line w lw) lj agree prim (line-length-high sh _ _ _ (located sh axis m l e .valid) line)

@@ -16,7 +16,7 @@ use Rattle.cube.specs.declared.Measured.the-variants.{Fits, Misfit}
 use Rattle.cube.specs.declared.Answer.{Answer}
 use Rattle.cube.specs.declared.Answer.the-variants.{Done, Refused}
 use Rattle.cube.specs.Shapes.{both, within, measured, lineOf}
-use Rattle.cube.specs.Cube.{layer, lineIn, CodeCube}
+use Rattle.cube.specs.Cube.{layer, layerLine, CodeCube}
 use Rattle.cube.specs.Flags.{flagsValid, noneMissing}
 use Rattle.line.specs.Line.{corrected}
 use Rattle.field.specs.Field.{reduction}
@@ -27,7 +27,7 @@ pub record Pass (r : ℕ) (sh : Shape) (axis : ℕ) (xs ys : List ℕ) : Type 0 
   pub lines :
       (m : ℕ) (l : Line) → lineOf sh axis m ≡ Found l → (w i : ℕ) → w < sh .w → i < l .len →
       layer sh ys w (l .first + l .stride * i) ≡
-      corrected r (l .len) (lineIn sh xs w (l .first) (l .stride)) i
+      corrected r (l .len) (layerLine sh xs w (l .first) (l .stride)) i
 
 -- "Pass by axis 1, 2, 3"
 pub record Passes (r : ℕ) (sh : Shape) (xs ys : List ℕ) : Type 0 where

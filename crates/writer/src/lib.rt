@@ -5,6 +5,7 @@ mod place;
 
 use cube::Answer;
 use cube::Fault;
+use cube::Measured;
 use cube::Refusal;
 use cube::Shape;
 use pack::JobRead;
@@ -61,8 +62,8 @@ fn capacity_of(sh: Shape) -> usize
     requires { ⌜ Valid sh ⌝ }
     ensures { λ r. ⌜ r ≡ capacity sh ⌝ }
 {
-    let l1 = sh.l1;
-    let l2 = sh.l2;
-    let l3 = sh.l3;
-    sh.w * ((l1 - 2) * (l2 - 2) * (l3 - 2))
+    match cube::measure(sh) {
+        Measured::Misfit(_) => 0,
+        Measured::Fits(z) => z.capacity,
+    }
 }

@@ -1,36 +1,35 @@
--- `writer::capacity_of` meets its contract. Assumes nothing.
-use mathlib.Core.Path.{refl}
+-- `writer::capacity_of` meets its contract: a valid shape passes, and its sizes are measured. Assumes nothing.
+use mathlib.Core.Path.{_≡_, ap, sym, _∙_}
+use Prim.Native.Nat.{ℕ}
 use native.Mathlib.Omega.{arith}
-use Rattle.cube.specs.Shapes.{capacity}
-use Rattle.cube.proofs.Valid.{area-le, data-length-le, bytes-le}
-use Rattle.pack.proofs.Counts.{data-volume-le}
+use Rattle.cube.specs.declared.Sizes.{Sizes}
+use Rattle.cube.specs.Shapes.{sizes}
+use Rattle.cube.proofs.Valid.{measured-fits, fits-measured}
 use borrow.Author.Needs.{needs}
 use Rattle.writer.proofs.capacity_of.Statement.{statement}
 use Rattle.writer.proofs.capacity_of.Tie as tie
 
-sub-result : tie.Need-sub-result
-sub-result c = search needs
+measure-requires : tie.Need-measure-requires
+measure-requires c κs = search needs
 
-sub-result-2 : tie.Need-sub-result-2
-sub-result-2 c = search needs
+enum-told : tie.Need-enum-told
+enum-told c = search needs
 
-mul-result : tie.Need-mul-result
-mul-result c = omega (arith, area-le _ _ (data-length-le _ (c .pre .l1-high)) (data-length-le _ (c .pre .l2-high)))
-
-sub-result-3 : tie.Need-sub-result-3
-sub-result-3 c = search needs
-
-mul-result-2 : tie.Need-mul-result-2
-mul-result-2 c = omega (arith, data-volume-le _ (c .pre))
-
-mul-result-3 : tie.Need-mul-result-3
-mul-result-3 c = omega (arith, bytes-le _ _ (c .before .pre .w-high) (data-volume-le _ (c .before .pre)))
+enum-known-z : tie.Need-enum-known-z
+enum-known-z c = search needs
 
 returns : tie.Need-returns
-unfolding capacity
-returns c = refl
+returns c =
+    let fits = fits-measured (c .before .before .before .args .sh) (c .before .before .before .pre) in
+    let misfits = sym (c .before .before .measure .ensures) ∙ c .enum-told .given .1 in
+    let z : _≡_ {A = ℕ} 0 1 = cc in
+    absurd (omega arith)
+
+returns-2 : tie.Need-returns-2
+unfolding sizes
+returns-2 c =
+    ap (λ (z : Sizes). z .capacity)
+    (measured-fits _ _ (sym (c .before .before .before .measure .ensures) ∙ c .before .z .given .1) .1)
 
 pub capacity-of-spec : {M : Type 1} → statement M
-capacity-of-spec =
-    tie.close
-    (tie.spec sub-result sub-result-2 mul-result sub-result-3 mul-result-2 mul-result-3 returns)
+capacity-of-spec = tie.close (tie.spec measure-requires enum-told enum-known-z returns returns-2)
