@@ -3,5 +3,7 @@
 pub mod Checks
 -- a pass, run by run
 pub mod Correction
+-- the pass by axis 1 from one cube into another, row by row
+pub mod Rows
 -- a pass determines every byte, keeps a code cube, restores a line with one wrong byte
 pub mod Mending

@@ -30,8 +30,9 @@ pub fn mend(cube: &[u8], flags: &[u8], second: &mut [u8], sh: Shape) -> Answer
     let Answer::Done = answer else {
         return answer;
     };
-    passes::copy(cube, second);
-    passes::three_passes(second, sh);
+    passes::first_pass(cube, second, sh);
+    passes::pass(second, sh, 2);
+    passes::pass(second, sh, 3);
     if cube::is_code_cube(second, sh) {
         Answer::Done
     } else {

@@ -3,20 +3,35 @@ use cube::LineAnswer;
 use cube::Shape;
 use line::Run;
 ghost use mathlib.Core.Path.{_≡_};
-ghost use Prim.Native.Nat.{_*_, _≤_};
+ghost use Prim.Native.Nat.{_+_, _*_, _≤_};
 ghost use lib.ListN.{length, replicate};
 ghost use Rattle.field.specs.Field.{reduction};
 ghost use Rattle.cube.specs.Shapes.{Valid, cells};
-ghost use Rattle.mend.specs.Mend.{Pass, Passes};
+ghost use Rattle.cube.specs.Plane.{Copied};
+ghost use Rattle.mend.specs.Mend.{Pass};
 
-// The passes by axis 1, 2, 3.
-pub(crate) fn three_passes(cube: &mut [u8], sh: Shape)
-    requires { ⌜ Valid sh × (length (now cube) ≡ sh .w * cells sh) ⌝ }
-    ensures { λ r. ⌜ Passes reduction sh (now (cube .entry)) (now (cube .exit)) ⌝ }
+// The pass by axis 1 from one cube into another: each row is corrected as soon as it is copied, while it is in the cache.
+pub(crate) fn first_pass(cube: &[u8], second: &mut [u8], sh: Shape)
+    requires { ⌜ Valid sh × (length (now cube) ≡ sh .w * cells sh) × (length (now second) ≡ sh .w * cells sh) ⌝ }
+    ensures { λ r. ⌜ Pass reduction sh 1 (now (cube .entry)) (now (second .exit)) ⌝ }
 {
-    pass(cube, sh, 1);
-    pass(cube, sh, 2);
-    pass(cube, sh, 3);
+    let w = sh.w;
+    let l1 = sh.l1;
+    let row = l1 * w;
+    let rows = sh.l2 * sh.l3;
+    let mut m = 0;
+    while m < rows {
+        let at = m * row;
+        copy(cube, second, at, row);
+        let run = Run {
+            first: at,
+            stride: w,
+            len: l1,
+            width: w,
+        };
+        line::correct(second, run);
+        m += 1;
+    }
 }
 
 // Corrects every line of an axis. The lines m to m + stride - 1 lie side by side, so they are one run.
@@ -43,13 +58,14 @@ pub(crate) fn pass(cube: &mut [u8], sh: Shape, axis: usize)
     }
 }
 
-pub(crate) fn copy(from: &[u8], to: &mut [u8])
-    requires { ⌜ length (now to) ≡ length (now from) ⌝ }
-    ensures { λ r. ⌜ now (to .exit) ≡ now (from .entry) ⌝ }
+// Copies n bytes from `at` on to the same place.
+fn copy(from: &[u8], to: &mut [u8], at: usize, n: usize)
+    requires { ⌜ (at + n ≤ length (now from)) × (at + n ≤ length (now to)) ⌝ }
+    ensures { λ r. ⌜ Copied (now (from .entry)) (now (to .entry)) (now (to .exit)) at at n ⌝ }
 {
     let mut i = 0;
-    while i < from.len() {
-        to[i] = from[i];
+    while i < n {
+        to[at + i] = from[at + i];
         i += 1;
     }
 }

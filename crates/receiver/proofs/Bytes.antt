@@ -1,6 +1,5 @@
 -- Runs of bytes copied, compared and tested, one more at a time.
 use mathlib.Core.Path.{_≡_, refl, sym, ap, _∙_}
-use mathlib.Core.Bool.{true, false, false≢true}
 use mathlib.Core.List.{List}
 use mathlib.Core.Logic.{_≢_}
 use Prim.Native.Nat.{ℕ, zero, _+_, _*_, _/_, _≤_, _<_}
@@ -8,11 +7,13 @@ use native.Mathlib.Nat.{mul-le-mul-right}
 use native.Mathlib.Decide.{ℕ-discrete}
 use native.Mathlib.Omega.{arith}
 use lib.Arith.{bin-ind}
-use lib.Bits.{bitOr, or-step, or-zero-l}
+use lib.Bits.{bitOr, bitXor, or-step, or-zero-l, xor-self}
 use lib.Dec.{eqb}
 use lib.ListN.{length, getD, set, replicate, length-set, length-replicate, getD-replicate}
 use lib.Seq.{getD-set-same, getD-set-other, ext-getD}
 use borrow.Author.Tests.{eqb-true, eqb-false}
+use Rattle.field.specs.Field.{add}
+use Rattle.field.proofs.Addition.{add-eq-zero}
 use Rattle.receiver.specs.Runs.{Copied, Compared, Zeros}
 
 -- from two constructors that are said to be one anything follows
@@ -43,16 +44,6 @@ copied-more src before after from to n room h =
     other : (p : ℕ) → (p ≡ to + n → ⊥) → getD (set after (to + n) (getD src (from + n) 0)) p 0 ≡ getD after p 0
     other p ne = getD-set-other after (to + n) p (getD src (from + n) 0) 0 ne
 
--- ---- runs compared
-
-pub compared-equal : (xs ys : List ℕ) (from to n : ℕ) → ((i : ℕ) → i < n → getD xs (from + i) 0 ≡ getD ys (to + i) 0)
-    → Compared xs from ys to n true
-compared-equal xs ys from to n h = record { equal = λ _. h; unequal = λ e. absurd (false≢true (sym e)) }
-
-pub compared-unequal : (xs ys : List ℕ) (from to n i : ℕ) → i < n → getD xs (from + i) 0 ≢ getD ys (to + i) 0
-    → Compared xs from ys to n false
-compared-unequal xs ys from to n i l ne = record { equal = λ e. absurd (false≢true e); unequal = λ _. (i, l, ne) }
-
 -- ---- bytes gathered by or
 
 or-zero : (a b : ℕ) → bitOr a b ≡ 0 → (a ≡ 0) × (b ≡ 0)
@@ -63,32 +54,55 @@ or-zero =
     let (p, q) = ih (b / 2) (omega arith) in
     (omega arith, omega arith))
 
--- the bytes below n are gathered in one
-pub record Gathered (xs : List ℕ) (from n any : ℕ) : Type 0 where
-  pub zero : any ≡ 0 → (i : ℕ) → i < n → getD xs (from + i) 0 ≡ 0
-  pub nonzero : any ≢ 0 → (i : ℕ) × (i < n) × (getD xs (from + i) 0 ≢ 0)
+-- the bytes x 0 to x (n - 1) are gathered in one
+pub record Gathered (x : ℕ → ℕ) (n any : ℕ) : Type 0 where
+  pub zero : any ≡ 0 → (i : ℕ) → i < n → x i ≡ 0
+  pub nonzero : any ≢ 0 → (i : ℕ) × (i < n) × (x i ≢ 0)
 
-pub gathered-none : (xs : List ℕ) (from : ℕ) → Gathered xs from 0 0
-gathered-none xs from = record { zero = λ e i l. absurd (omega arith); nonzero = λ ne. absurd (ne refl) }
+pub gathered-none : (x : ℕ → ℕ) → Gathered x 0 0
+gathered-none x = record { zero = λ e i l. absurd (omega arith); nonzero = λ ne. absurd (ne refl) }
 
-pub gathered-more : (xs : List ℕ) (from n any : ℕ) → Gathered xs from n any → Gathered xs from (n + 1) (bitOr any (getD xs (from + n) 0))
-gathered-more xs from n any h =
+pub gathered-more : (x : ℕ → ℕ) (n any : ℕ) → Gathered x n any → Gathered x (n + 1) (bitOr any (x n))
+gathered-more x n any h =
     record {
       zero = λ e i l.
-          let (p, q) = or-zero any (getD xs (from + n) 0) e in
+          let (p, q) = or-zero any (x n) e in
           elim (ℕ-discrete i n) [
             | yes same ↦ rw same q
             | no ne ↦ h .zero p i (omega arith)
           ];
       nonzero = λ ne. elim (ℕ-discrete any 0) [
-        | yes e ↦ (n, omega arith, λ z. ne (ap (λ (k : ℕ). bitOr k (getD xs (from + n) 0)) e ∙ or-zero-l _ ∙ z))
+        | yes e ↦ (n, omega arith, λ z. ne (ap (λ (k : ℕ). bitOr k (x n)) e ∙ or-zero-l _ ∙ z))
         | no some ↦ let (i, l, u) = h .nonzero some in (i, omega arith, u)
       ];
     }
 
-pub gathered-zeros : (xs : List ℕ) (from n any : ℕ) → Gathered xs from n any → Zeros xs from n (eqb any 0)
+-- a run's bytes, and the differences of two runs
+unfoldable pub run : List ℕ → ℕ → ℕ → ℕ
+run xs from i = getD xs (from + i) 0
+
+unfoldable pub differences : List ℕ → ℕ → List ℕ → ℕ → ℕ → ℕ
+differences xs from ys to i = bitXor (getD xs (from + i) 0) (getD ys (to + i) 0)
+
+pub gathered-zeros : (xs : List ℕ) (from n any : ℕ) → Gathered (run xs from) n any → Zeros xs from n (eqb any 0)
+unfolding run
 gathered-zeros xs from n any h =
     record { zero = λ e. h .zero (eqb-true any 0 e); nonzero = λ e. h .nonzero (eqb-false any 0 e) }
+
+-- two bytes differ by 00h exactly when they agree
+xor-zero : (a b : ℕ) → bitXor a b ≡ 0 → a ≡ b
+unfolding add
+xor-zero a b e = add-eq-zero a b e
+
+pub gathered-compared : (xs ys : List ℕ) (from to n any : ℕ) → Gathered (differences xs from ys to) n any → Compared xs from ys to n (eqb any 0)
+unfolding differences
+gathered-compared xs ys from to n any h =
+    record {
+      equal = λ e i l. xor-zero _ _ (h .zero (eqb-true any 0 e) i l);
+      unequal = λ e.
+          let (i, l, ne) = h .nonzero (eqb-false any 0 e) in
+          (i, l, λ same. ne (ap (λ (b : ℕ). bitXor b (getD ys (to + i) 0)) same ∙ xor-self (getD ys (to + i) 0)));
+    }
 
 -- ---- a slice of one byte
 

@@ -2,6 +2,7 @@
 use mathlib.Core.Path.{_≡_, refl, sym, ap, _∙_}
 use mathlib.Core.Bool.{false≢true}
 use Prim.Native.Nat.{ℕ}
+use native.Mathlib.Omega.{arith}
 use lib.ListN.{length, replicate}
 use Rattle.field.specs.Field.{reduction}
 use Rattle.cube.specs.declared.Answer.the-variants.{Done}
@@ -23,10 +24,19 @@ ready-here : (c : tie.After-enum-told)
     Ready (a .sh) (length (a .cube .now)) (length (a .second .now))
 ready-here c = ready _ _ _ _ (done-here c)
 
--- the passes start from the cube
-passes-here : (c : tie.After-three-passes)
-    → let a = c .before .before .before .before .before .before .before .before .before .before .before .before .args in Passes reduction (a .sh) (a .cube .now) (c .three-passes .last .0)
-passes-here c = rw (c .before .before .before .before .copy .ensures) at (c .three-passes .ensures)
+-- the three passes, of which the first goes from the cube to the second
+passes-here : (c : tie.After-pass2)
+    → let a = c .before .before .before .before .before .before .before .before .before .before .before .before .before .before .before .before .args in Passes reduction (a .sh) (a .cube .now) (c .pass2 .last .0)
+passes-here c =
+    let first = c .before .before .before .before .before .before .before .before .first-pass in
+    let second = c .before .before .before .before .pass in
+    record {
+      after1 = first .last .1 .0;
+      after2 = second .last .0;
+      pass1 = first .ensures;
+      pass2 = second .ensures;
+      pass3 = c .pass2 .ensures;
+    }
 
 check-requires : tie.Need-check-requires
 check-requires c κs = search needs
@@ -40,11 +50,19 @@ enum-told-2 c = search needs
 returns : tie.Need-returns
 returns c = rw (c .enum-told2 .given .1) (refused _ (sym (c .before .before .check .ensures) ∙ c .enum-told2 .given .1) refl)
 
-copy-requires : tie.Need-copy-requires
-copy-requires c κs = let ok = ready-here (c .before) in ok .room ∙ sym (ok .size)
+first-pass-requires : tie.Need-first-pass-requires
+first-pass-requires c κs = let ok = ready-here (c .before) in (ok .valid, ok .size, ok .room)
 
-three-passes-requires : tie.Need-three-passes-requires
-three-passes-requires c κs = let ok = ready-here (c .before .before .before .before .before) in (ok .valid, ap length (c .before .before .before .copy .ensures) ∙ ok .size)
+pass-requires : tie.Need-pass-requires
+pass-requires c κs =
+    let ok = ready-here (c .before .before .before .before .before) in
+    (ok .valid, c .before .before .before .first-pass .kept .1 .0 ∙ ok .room, omega arith, omega arith)
+
+pass-requires-2 : tie.Need-pass-requires-2
+pass-requires-2 c κs =
+    let ok = ready-here (c .before .before .before .before .before .before .before .before .before) in
+    let first = c .before .before .before .before .before .before .before .first-pass in
+    (ok .valid, c .before .before .before .pass .kept .0 ∙ first .kept .1 .0 ∙ ok .room, omega arith, omega arith)
 
 is-code-cube-requires : tie.Need-is-code-cube-requires
 is-code-cube-requires c κs = search needs
@@ -57,7 +75,9 @@ same-length c = search needs
 
 returns-2 : tie.Need-returns-2
 returns-2 c =
-    mended (done-here (c .before .before .before .before .before .before .before .before .before .before .before)) (passes-here (c .before .before .before .before .before)) (c .before .is-code-cube .ensures .code (c .if1 .taken))
+    let passed = c .before .before .before .before .before in
+    let checked = passed .before .before .before .before .before .before .before .before .before .before in
+    mended (done-here checked) (passes-here passed) (c .before .is-code-cube .ensures .code (c .if1 .taken))
 
 same-length-2 : tie.Need-same-length-2
 same-length-2 c = search needs
@@ -66,11 +86,13 @@ returns-3 : tie.Need-returns-3
 returns-3 c =
     let tested = c .before .before .before .before in
     let passed = c .before .before .before .before .before .before .before .before .before in
-    let checked = passed .before .before .before .before .before .before in
+    let first = passed .before .before .before .before .before .before .before .before .first-pass in
+    let checked = passed .before .before .before .before .before .before .before .before .before .before in
     uncorrected (done-here checked) _ (passes-here passed)
     (λ code. false≢true (sym (tested .if1 .left) ∙ tested .before .is-code-cube .ensures .yes-when (ready-here checked .valid) code))
     (c .before .before .clear .ensures
-    ∙ ap (λ (n : ℕ). replicate n 0) (passed .three-passes .kept .0 ∙ passed .before .before .before .before .copy .kept .1 .0))
+    ∙ ap (λ (n : ℕ). replicate n 0)
+    (passed .pass2 .kept .0 ∙ passed .before .before .before .before .pass .kept .0 ∙ first .kept .1 .0))
 
 pub mend-spec : {M : Type 1} → statement M
 mend-spec =
@@ -80,8 +102,9 @@ mend-spec =
     enum-told
     enum-told-2
     returns
-    copy-requires
-    three-passes-requires
+    first-pass-requires
+    pass-requires
+    pass-requires-2
     is-code-cube-requires
     clear-requires
     same-length

@@ -1,24 +1,30 @@
--- `mend::passes::copy` meets its contract. The invariant: the first i bytes are copied. Assumes nothing.
-use mathlib.Core.Path.{_≡_, refl, sym, ap, _∙_}
-use Prim.Native.Nat.{ℕ, _≤_, _<_, _-_}
+-- `mend::passes::copy` meets its contract. The invariant: i bytes from `at` on are copied, all others kept. Assumes nothing.
+use mathlib.Core.Path.{_≡_, refl}
+use Prim.Native.Nat.{_≤_, _-_}
 use native.Mathlib.Omega.{arith}
-use borrow.Author.Count.{below-none, below-more}
-use lib.ListN.{length, getD, length-set}
-use lib.Seq.{ext-getD, getD-set-same, getD-set-other}
+use lib.ListN.{length, length-set}
+use Rattle.cube.specs.Plane.{Copied}
+use Rattle.cube.proofs.Copying.{copied-none, copied-more}
 use Rattle.mend.proofs.passes.copy.Statement.{statement}
 use Rattle.mend.proofs.passes.copy.Tie as tie
 
 abbrev Inv-loop : tie.InvT-loop
-Inv-loop from to₀ i₀ to i = (i ≤ length from) × (length to ≡ length from) × ((k : ℕ) → k < i → getD to k 0 ≡ getD from k 0)
+Inv-loop from to₀ at n i₀ to i = (i ≤ n) × (length to ≡ length to₀) × Copied from to₀ to at at i
 
 abbrev μ-loop : tie.MeasureT-loop
-μ-loop from to₀ i₀ to i = length from - i
+μ-loop from to₀ at n i₀ to i = n - i
 
 loop-holds : tie.Need-loop-holds Inv-loop μ-loop
-loop-holds c = (omega arith, c .pre, λ k l. absurd (omega arith))
+loop-holds c = (omega arith, refl, copied-none _ _ _ _)
+
+add-to : tie.Need-add-to Inv-loop μ-loop
+add-to c = omega arith
 
 shared-slice-read-to : tie.Need-shared-slice-read-to Inv-loop μ-loop
 shared-slice-read-to c = omega arith
+
+add-to-2 : tie.Need-add-to-2 Inv-loop μ-loop
+add-to-2 c = omega arith
 
 slice-write-to : tie.Need-slice-write-to Inv-loop μ-loop
 slice-write-to c = omega arith
@@ -30,22 +36,15 @@ loop-less : tie.Need-loop-less Inv-loop μ-loop
 loop-less c = omega arith
 
 loop-again : tie.Need-loop-again Inv-loop μ-loop
-loop-again c =
-    let to = c .before .before .loop .to in
-    let i = c .before .before .loop .i in
-    let byte = getD (c .before .before .before .args .from .now) i 0 in
-    let inv = c .before .before .loop .inv in
-    let room : i < length to = omega arith in (
-      omega arith,
-      simp length-set (inv .1),
-      below-more _ i (λ k l. getD-set-other to i k byte 0 (λ (e : k ≡ i). omega arith) ∙ inv .2 k l) (getD-set-same to i byte 0 room),
-    )
+loop-again c = (omega arith, simp length-set (omega arith), copied-more _ _ _ _ _ _ (omega arith) (c .before .before .loop .inv .2))
 
 same-length : tie.Need-same-length Inv-loop μ-loop
-same-length c = c .before .loop .inv .1 ∙ sym (c .before .before .pre)
+same-length c = omega arith
 
 returns : tie.Need-returns Inv-loop μ-loop
-returns c = let inv = c .before .loop .inv in ext-getD 0 _ _ (inv .1) (λ k l. inv .2 k (omega arith))
+returns c =
+    let all : c .before .loop .i ≡ c .before .before .args .n = omega arith in
+    rw all at (c .before .loop .inv .2)
 
 pub copy-spec : {M : Type 1} → statement M
 copy-spec =
@@ -54,7 +53,9 @@ copy-spec =
     Inv-loop
     μ-loop
     loop-holds
+    add-to
     shared-slice-read-to
+    add-to-2
     slice-write-to
     add-i
     loop-less

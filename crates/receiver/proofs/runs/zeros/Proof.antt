@@ -2,18 +2,18 @@
 use native.Mathlib.Omega.{arith}
 use mathlib.Core.Path.{_≡_}
 use Prim.Native.Nat.{_≤_, _-_}
-use Rattle.receiver.proofs.Bytes.{Gathered, gathered-none, gathered-more, gathered-zeros}
+use Rattle.receiver.proofs.Bytes.{Gathered, run, gathered-none, gathered-more, gathered-zeros}
 use Rattle.receiver.proofs.runs.zeros.Statement.{statement}
 use Rattle.receiver.proofs.runs.zeros.Tie as tie
 
 abbrev Inv-loop : tie.InvT-loop
-Inv-loop s from n any₀ i₀ any i = (i ≤ n) × Gathered s from i any
+Inv-loop s from n any₀ i₀ any i = (i ≤ n) × Gathered (run s from) i any
 
 abbrev μ-loop : tie.MeasureT-loop
 μ-loop s from n any₀ i₀ any i = n - i
 
 loop-holds : tie.Need-loop-holds Inv-loop μ-loop
-loop-holds c = (omega arith, gathered-none _ _)
+loop-holds c = (omega arith, gathered-none _)
 
 add-any : tie.Need-add-any Inv-loop μ-loop
 add-any c = omega arith
@@ -28,7 +28,8 @@ loop-less : tie.Need-loop-less Inv-loop μ-loop
 loop-less c = omega arith
 
 loop-again : tie.Need-loop-again Inv-loop μ-loop
-loop-again c = (omega arith, gathered-more _ _ _ _ (c .before .before .loop .inv .1))
+unfolding run
+loop-again c = (omega arith, gathered-more _ _ _ (c .before .before .loop .inv .1))
 
 returns : tie.Need-returns Inv-loop μ-loop
 returns c =
