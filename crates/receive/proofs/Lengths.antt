@@ -1,0 +1,84 @@
+-- How long the printed texts are: each run of them fits in a buffer of 65,536 bytes.
+use mathlib.Core.Path.{_≡_}
+use mathlib.Core.Bool.{Bool, true, false, cond}
+use mathlib.Core.List.{List, [], _∷_, _++_}
+use Prim.Native.Nat.{ℕ, zero, suc, _+_, _-_, _*_, _/_, _%_, _≤_, _<_, min}
+use native.Mathlib.Nat.{le-min, min-le-left, min-le-right}
+use native.Mathlib.Omega.{arith}
+use lib.Dec.{eqb}
+use lib.ListN.{length, getD, length-append}
+use Rattle.cube.specs.declared.Shape.{Shape}
+use Rattle.text.specs.Text.{ascii, hexByte, numberLine, triple}
+use Rattle.text.proofs.Numerals.{length-numberLine, length-triple}
+use Rattle.receive.specs.declared.receiving.Report.{Report}
+use Rattle.receive.specs.declared.receiving.Outcome.the-variants.{Came}
+use Rattle.receive.specs.Printed.{shapeLine, headLines, openingLines, separator, byteText, holeLine, holeText, joined}
+
+length-pick : (t : Bool) (x y : List ℕ) (n : ℕ) → length x ≤ n → length y ≤ n → length (cond t x y) ≤ n
+length-pick true x y n h k = h
+length-pick false x y n h k = k
+
+-- ---- the first lines
+
+length-shapeLine : (sh : Shape) → length (shapeLine sh) ≤ 90
+unfolding shapeLine
+length-shapeLine sh =
+    let first = triple (ascii "shape ") (sh .l1) (sh .l2) (sh .l3) in
+    omega
+    (arith, length-append first (numberLine (ascii " ") (sh .w)), length-triple (ascii "shape ") (sh .l1) (sh .l2) (sh .l3), length-numberLine (ascii " ") (sh .w))
+
+length-headLines : (r : Report) → length (headLines r) ≤ 174
+unfolding headLines
+length-headLines r =
+    let packets = numberLine (ascii "packets ") (r .packets) in
+    let repeats = numberLine (ascii "repeats ") (r .repeats) in
+    let left = numberLine (ascii "left ") (r .left) in
+    let a = length-numberLine (ascii "packets ") (r .packets) in
+    let b = length-numberLine (ascii "repeats ") (r .repeats) in
+    let c = length-numberLine (ascii "left ") (r .left) in
+    omega
+    (arith, length-append (shapeLine (r .shape)) (packets ++ (repeats ++ left)), length-append packets (repeats ++ left), length-append repeats left, length-shapeLine (r .shape))
+
+pub length-openingLines : (r : Report) → length (openingLines (Came r)) ≤ 200
+unfolding openingLines
+length-openingLines r =
+    let file = numberLine (ascii "file ") (r .length) in
+    let more = cond (eqb (r .left) 0) file [] in
+    let l : length more ≤ 26 = length-pick (eqb (r .left) 0) file [] 26 (length-numberLine (ascii "file ") (r .length)) (omega arith) in
+    omega (arith, length-append (headLines r) more, length-headLines r)
+
+-- ---- the bytes and the holes
+
+pub length-byteText : (bs : List ℕ) (n i : ℕ) → length (byteText bs n i) ≤ 68
+unfolding byteText hexByte
+length-byteText bs n i = omega (arith, length-append (hexByte (getD bs i 0)) (separator n i ∷ []))
+
+length-holeLine : (sh : Shape) (m : ℕ) → length (holeLine sh m) ≤ 68
+unfolding holeLine
+length-holeLine sh m =
+    let a = m % sh .l1 in
+    let b = m / sh .l1 % sh .l2 in
+    let c = m / (sh .l1 * sh .l2) in
+    omega (arith, length-append (triple (ascii "hole ") a b c) (ascii "\n"), length-triple (ascii "hole ") a b c)
+
+pub length-holeText : (sh : Shape) (fs : List ℕ) (m : ℕ) → length (holeText sh fs m) ≤ 68
+unfolding holeText
+length-holeText sh fs m = length-pick (eqb (getD fs m 0) 1) (holeLine sh m) [] 68 (length-holeLine sh m) (omega arith)
+
+-- a run of texts of at most 68 characters
+length-joined : (text : ℕ → List ℕ) (from count : ℕ) → ((i : ℕ) → length (text i) ≤ 68) → length (joined text from count) ≤ 68 * count
+unfolding joined
+length-joined text from zero h = omega arith
+length-joined text from (suc k) h =
+    omega (arith, length-append (joined text from k) (text (from + k)), length-joined text from k h, h (from + k))
+
+pub run-fits : (text : ℕ → List ℕ) (from count : ℕ) → ((i : ℕ) → length (text i) ≤ 68) → count ≤ 512 → length (joined text from count) ≤ 65536
+run-fits text from count h k = omega (arith, length-joined text from count h)
+
+-- how many of the next texts are printed at once
+pub run-count : (n from count : ℕ) → from < n → count ≡ min 512 (n - from) → (0 < count) × (count ≤ 512) × (from + count ≤ n)
+run-count n from count h e =
+    let low : 1 ≤ min 512 (n - from) = le-min (omega arith) (omega arith) in
+    let l = min-le-left 512 (n - from) in
+    let r = min-le-right 512 (n - from) in
+    (omega arith, omega arith, omega arith)

@@ -1,0 +1,3 @@
+-- What a reader of the crate `text` must believe.
+pub mod Text
+pub mod Append

@@ -1,0 +1,2 @@
+-- Why the program `write` meets its contract: what it prints (`Printed`).
+pub mod Printed

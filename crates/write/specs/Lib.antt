@@ -1,0 +1,2 @@
+-- What a reader of the program `write` must believe.
+pub mod Prints
