@@ -1,4 +1,4 @@
-//! The benchmark: encoding, filling and mending against memcpy of the cube, and encoding against ISA-L.
+//! The benchmark: encoding, filling, mending and receiving against memcpy of the cube, and encoding against ISA-L.
 //!
 //! All times of one table row come from the same run, in rounds that take every candidate in turn; each is the minimum of its
 //! rounds, in processor time of the thread. Buffers are allocated and touched before any timing.
@@ -6,6 +6,7 @@
 mod clock;
 mod encoding;
 mod isal;
+mod receiving;
 mod repair;
 
 use std::time::Duration;
@@ -26,6 +27,8 @@ fn main() {
     encoding::table();
     println!();
     repair::table();
+    println!();
+    receiving::table();
 }
 
 /// Calls each of the pieces of work in turn, round by round, and gives the least time of each. `before` is not timed.

@@ -76,7 +76,8 @@ fn mend_row() -> Result<(), Refusal> {
     Ok(())
 }
 
-fn print_row(what: &str, least: &[Duration]) {
+/// Prints how long the second of two pieces of work takes, over the first.
+pub fn print_row(what: &str, least: &[Duration]) {
     let ratio = least[1].as_secs_f64() / least[0].as_secs_f64();
     println!("| {what} | {ratio:.2} |");
 }

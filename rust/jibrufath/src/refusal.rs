@@ -26,8 +26,30 @@ pub enum Refusal {
     Memory,
     /// 5: a flag is neither 0 nor 1.
     Flag,
+    /// 6: the pack ends inside a count or a section.
+    Truncated,
+    /// 7: the count of section 1 is not 5.
+    HeaderCount,
+    /// 8: the pack has bytes after section 3.
+    TrailingBytes,
+    /// 9: the section that must be empty is not: section 3 for the writer, section 2 for the receiver.
+    SectionCount,
+    /// 10: the data string has no room for the file, or not even for the four bytes of its length.
+    Capacity,
+    /// 11: a packet names a cell outside the cube.
+    CellIndex {
+        /// The packet's index, from 0.
+        packet: u64,
+    },
+    /// 12: a packet's cell came before with other bytes.
+    Conflict {
+        /// The packet's index, from 0.
+        packet: u64,
+    },
     /// 13: no filling exists: the known cells contradict each other.
     NoFilling,
+    /// 14: the data string holds no file: its length is too large, or a byte behind it is not 00h.
+    FileLength,
     /// 15: a cell is flagged missing, and mending takes only whole cubes.
     Missing,
     /// 16: what mending leaves is not a code cube.
@@ -35,18 +57,11 @@ pub enum Refusal {
 }
 
 impl Refusal {
-    const ALL: [Refusal; 8] = [
-        Refusal::Length,
-        Refusal::Width,
-        Refusal::Size,
-        Refusal::Memory,
-        Refusal::Flag,
-        Refusal::NoFilling,
-        Refusal::Missing,
-        Refusal::NotMended,
-    ];
-
     /// The number in the table.
+    ///
+    /// ```
+    /// assert_eq!(jibrufath::Refusal::NoFilling.number(), 13);
+    /// ```
     pub fn number(self) -> u8 {
         match self {
             Refusal::Length => 1,
@@ -54,9 +69,55 @@ impl Refusal {
             Refusal::Size => 3,
             Refusal::Memory => 4,
             Refusal::Flag => 5,
+            Refusal::Truncated => 6,
+            Refusal::HeaderCount => 7,
+            Refusal::TrailingBytes => 8,
+            Refusal::SectionCount => 9,
+            Refusal::Capacity => 10,
+            Refusal::CellIndex { .. } => 11,
+            Refusal::Conflict { .. } => 12,
             Refusal::NoFilling => 13,
+            Refusal::FileLength => 14,
             Refusal::Missing => 15,
             Refusal::NotMended => 16,
+        }
+    }
+
+    /// The index of the packet that was refused; none where the refusal is not of a packet.
+    ///
+    /// ```
+    /// use jibrufath::Refusal;
+    ///
+    /// assert_eq!(Refusal::Conflict { packet: 7 }.packet(), Some(7));
+    /// assert_eq!(Refusal::NoFilling.packet(), None);
+    /// ```
+    pub fn packet(self) -> Option<u64> {
+        match self {
+            Refusal::CellIndex { packet } | Refusal::Conflict { packet } => Some(packet),
+            _ => None,
+        }
+    }
+
+    /// The refusal with this number, of this packet where it is one of a packet.
+    fn numbered(number: u64, packet: u64) -> Refusal {
+        match number {
+            1 => Refusal::Length,
+            2 => Refusal::Width,
+            3 => Refusal::Size,
+            4 => Refusal::Memory,
+            5 => Refusal::Flag,
+            6 => Refusal::Truncated,
+            7 => Refusal::HeaderCount,
+            8 => Refusal::TrailingBytes,
+            9 => Refusal::SectionCount,
+            10 => Refusal::Capacity,
+            11 => Refusal::CellIndex { packet },
+            12 => Refusal::Conflict { packet },
+            13 => Refusal::NoFilling,
+            14 => Refusal::FileLength,
+            15 => Refusal::Missing,
+            16 => Refusal::NotMended,
+            _ => panic!("the library answers with numbers of the table"),
         }
     }
 }
@@ -69,28 +130,36 @@ impl fmt::Display for Refusal {
             Refusal::Size => "W × cells is above 268,435,456",
             Refusal::Memory => "a lent slice has not the exact length",
             Refusal::Flag => "a flag is neither 0 nor 1",
+            Refusal::Truncated => "the pack ends inside a count or a section",
+            Refusal::HeaderCount => "the count of section 1 is not 5",
+            Refusal::TrailingBytes => "the pack has bytes after section 3",
+            Refusal::SectionCount => "the section that must be empty is not",
+            Refusal::Capacity => "the data string has no room for the file",
+            Refusal::CellIndex { .. } => "a packet names a cell outside the cube",
+            Refusal::Conflict { .. } => "a packet's cell came before with other bytes",
             Refusal::NoFilling => "no filling exists",
+            Refusal::FileLength => "the data string holds no file",
             Refusal::Missing => "a cell is flagged missing",
             Refusal::NotMended => "what mending leaves is not a code cube",
         };
-        write!(f, "refused {}: {meaning}", self.number())
+        write!(f, "refused {}: {meaning}", self.number())?;
+        match self.packet() {
+            Some(index) => write!(f, ", packet {index}"),
+            None => Ok(()),
+        }
     }
 }
 
 impl Error for Refusal {}
 
-/// Reads an answer of the library: the refusal's number (0 for none) in the low byte, a count above it.
+/// Reads an answer of the library: the refusal's number (0 for none) in the low byte; above it a count, or with the refusal of
+/// a packet its index.
 pub(crate) fn answer(word: u64) -> Result<usize, Refusal> {
-    let number = word % 256;
-    let count = word / 256;
-    if number == 0 {
-        return Ok(count as usize);
+    let (number, count) = (word % 256, word / 256);
+    match number {
+        0 => Ok(count as usize),
+        _ => Err(Refusal::numbered(number, count)),
     }
-    let known = |refusal: &Refusal| u64::from(refusal.number()) == number;
-    Err(Refusal::ALL
-        .into_iter()
-        .find(known)
-        .expect("the library answers with numbers of the table"))
 }
 
 #[cfg(test)]
@@ -101,8 +170,20 @@ mod tests {
     fn answers() {
         assert_eq!(answer(0), Ok(0));
         assert_eq!(answer(27 * 256), Ok(27));
-        for refusal in Refusal::ALL {
-            assert_eq!(answer(u64::from(refusal.number())), Err(refusal));
+        for number in 1..=16u8 {
+            let refusal = answer(u64::from(number) + 7 * 256).unwrap_err();
+            assert_eq!(refusal.number(), number);
+            let packet = matches!(number, 11 | 12).then_some(7);
+            assert_eq!(refusal.packet(), packet);
         }
+    }
+
+    #[test]
+    fn a_packet_is_named() {
+        let refusal = Refusal::CellIndex { packet: 7 };
+        assert_eq!(
+            refusal.to_string(),
+            "refused 11: a packet names a cell outside the cube, packet 7"
+        );
     }
 }

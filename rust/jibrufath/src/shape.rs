@@ -1,9 +1,17 @@
 //! The shape of a cube, and the lengths of the slices that a call is lent.
 
 use crate::Refusal;
+use crate::refusal::answer;
 
-/// The largest cube, in bytes.
-const MOST_BYTES: usize = 268_435_456;
+unsafe extern "C" {
+    safe fn jibrufath_cells(l1: usize, l2: usize, l3: usize, w: usize) -> u64;
+    safe fn jibrufath_cube_bytes(l1: usize, l2: usize, l3: usize, w: usize) -> u64;
+    safe fn jibrufath_capacity(l1: usize, l2: usize, l3: usize, w: usize) -> u64;
+    safe fn jibrufath_pack_bytes(l1: usize, l2: usize, l3: usize, w: usize) -> u64;
+}
+
+/// The bytes of the file's length, which begins a data string.
+const LENGTH_BYTES: usize = 4;
 
 /// Three lengths, and W, the bytes of a cell. Any numbers can be put in; every call checks them.
 ///
@@ -15,7 +23,6 @@ const MOST_BYTES: usize = 268_435_456;
 /// let shape = Shape::new(69, 69, 25, 397);
 /// assert_eq!(shape.cells(), Ok(119_025));
 /// assert_eq!(shape.cube_len(), Ok(47_252_925));
-/// assert_eq!(shape.data_len(), Ok(40_989_059));
 /// assert_eq!(Shape::new(255, 255, 255, 17).cells(), Err(Refusal::Size));
 /// ```
 #[derive(Clone, Copy, Debug, PartialEq, Eq, Hash)]
@@ -32,40 +39,105 @@ pub struct Shape {
 
 impl Shape {
     /// A shape of these numbers, not yet checked.
+    ///
+    /// ```
+    /// use jibrufath::Shape;
+    ///
+    /// assert_eq!(Shape::new(5, 4, 3, 16), Shape { l1: 5, l2: 4, l3: 3, w: 16 });
+    /// ```
     pub const fn new(l1: usize, l2: usize, l3: usize, w: usize) -> Shape {
         Shape { l1, l2, l3, w }
     }
 
-    /// Refuses, in this order: a length ([`Refusal::Length`]), W ([`Refusal::Width`]), the bytes of the
-    /// cube ([`Refusal::Size`]).
+    /// Checks the numbers.
+    ///
+    /// # Errors
+    ///
+    /// In this order: [`Refusal::Length`], [`Refusal::Width`], [`Refusal::Size`].
+    ///
+    /// ```
+    /// use jibrufath::{Refusal, Shape};
+    ///
+    /// assert_eq!(Shape::new(128, 128, 16, 1024).check(), Ok(()));
+    /// assert_eq!(Shape::new(3, 3, 3, 1025).check(), Err(Refusal::Width));
+    /// ```
     pub fn check(self) -> Result<(), Refusal> {
-        let lengths = [self.l1, self.l2, self.l3];
-        if lengths.iter().any(|length| !(3..=255).contains(length)) {
-            return Err(Refusal::Length);
-        }
-        if !(1..=1024).contains(&self.w) {
-            return Err(Refusal::Width);
-        }
-        if self.l1 * self.l2 * self.l3 > MOST_BYTES / self.w {
-            return Err(Refusal::Size);
-        }
-        Ok(())
+        self.cells().map(|_| ())
     }
 
-    /// The number of cells, which is the length of flags. Refuses as [`Shape::check`].
+    /// The number of cells, which is the length of flags.
+    ///
+    /// # Errors
+    ///
+    /// As [`Shape::check`].
+    ///
+    /// ```
+    /// assert_eq!(jibrufath::Shape::new(5, 4, 3, 16).cells(), Ok(60));
+    /// ```
     pub fn cells(self) -> Result<usize, Refusal> {
-        self.check()?;
-        Ok(self.l1 * self.l2 * self.l3)
+        self.ask(jibrufath_cells)
     }
 
-    /// The length of a cube. Refuses as [`Shape::check`].
+    /// The length of a cube: W × cells.
+    ///
+    /// # Errors
+    ///
+    /// As [`Shape::check`].
+    ///
+    /// ```
+    /// assert_eq!(jibrufath::Shape::new(5, 4, 3, 16).cube_len(), Ok(960));
+    /// ```
     pub fn cube_len(self) -> Result<usize, Refusal> {
-        Ok(self.w * self.cells()?)
+        self.ask(jibrufath_cube_bytes)
     }
 
-    /// The length of a data string, the capacity. Refuses as [`Shape::check`].
+    /// The length of a data string, the capacity: W × (L1 - 2)(L2 - 2)(L3 - 2).
+    ///
+    /// # Errors
+    ///
+    /// As [`Shape::check`].
+    ///
+    /// ```
+    /// assert_eq!(jibrufath::Shape::new(5, 4, 3, 16).data_len(), Ok(96));
+    /// ```
     pub fn data_len(self) -> Result<usize, Refusal> {
-        self.check()?;
-        Ok(self.w * (self.l1 - 2) * (self.l2 - 2) * (self.l3 - 2))
+        self.ask(jibrufath_capacity)
+    }
+
+    /// The most bytes of a file, which is the length of the receiver's file buffer: four less than a data string.
+    ///
+    /// # Errors
+    ///
+    /// As [`Shape::check`], then [`Refusal::Capacity`] where a data string has less than four bytes.
+    ///
+    /// ```
+    /// use jibrufath::{Refusal, Shape};
+    ///
+    /// assert_eq!(Shape::new(5, 4, 3, 16).file_len(), Ok(92));
+    /// assert_eq!(Shape::new(3, 3, 3, 4).file_len(), Ok(0));
+    /// assert_eq!(Shape::new(3, 3, 3, 3).file_len(), Err(Refusal::Capacity));
+    /// ```
+    pub fn file_len(self) -> Result<usize, Refusal> {
+        self.data_len()?
+            .checked_sub(LENGTH_BYTES)
+            .ok_or(Refusal::Capacity)
+    }
+
+    /// The length of a written pack: 17 + cells × (3 + W).
+    ///
+    /// # Errors
+    ///
+    /// As [`Shape::check`].
+    ///
+    /// ```
+    /// assert_eq!(jibrufath::Shape::new(5, 4, 3, 16).pack_len(), Ok(1157));
+    /// ```
+    pub fn pack_len(self) -> Result<usize, Refusal> {
+        self.ask(jibrufath_pack_bytes)
+    }
+
+    /// A size of this shape, as the library answers it.
+    fn ask(self, size: extern "C" fn(usize, usize, usize, usize) -> u64) -> Result<usize, Refusal> {
+        answer(size(self.l1, self.l2, self.l3, self.w))
     }
 }

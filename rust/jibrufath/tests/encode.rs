@@ -1,10 +1,8 @@
 //! The field, encoding and reading of data, compared with the independent program.
 
-mod support;
-
+use compare::{SHAPES_AT_THE_LIMITS, agree, numbered, random_shape, twin};
 use jibrufath::{Shape, encode, field, read_data};
 use reference::random::Random;
-use support::{Lent, numbered, random_shape, twin};
 
 #[test]
 fn all_products() {
@@ -41,27 +39,28 @@ fn compare(random: &mut Random, shape: Shape) {
 
 /// Encodes over garbage, compares every byte, and hands back the code cube.
 fn compare_encode(random: &mut Random, shape: Shape, data: &[u8]) -> Vec<u8> {
-    let mut cube = Lent::garbage(random, twin(shape).cube_len());
-    let lent_data = Lent::new(random, data);
-    let mut expected = cube.bytes().to_vec();
-    let answer = reference::encode(twin(shape), data, &mut expected);
-    let result = encode(shape, lent_data.bytes(), cube.bytes_mut());
-    assert_eq!(numbered(result), answer, "encode {shape:?}");
-    cube.assert_holds(&expected, &format!("encode {shape:?}, cube"));
-    lent_data.assert_holds(data, &format!("encode {shape:?}, data"));
-    expected
+    let garbage = random.bytes(twin(shape).cube_len());
+    let [_, code_cube] = agree(
+        &format!("encode {shape:?}"),
+        random,
+        [data, &garbage],
+        |[data, cube]| numbered(encode(shape, data, cube)),
+        |[data, cube]| reference::encode(twin(shape), data, cube),
+    )
+    .after;
+    code_cube
 }
 
 /// Reads the data of any cube, over garbage, and compares every byte.
 fn compare_read_data(random: &mut Random, shape: Shape, cube: &[u8]) {
-    let lent_cube = Lent::new(random, cube);
-    let mut data = Lent::garbage(random, twin(shape).capacity());
-    let mut expected = data.bytes().to_vec();
-    let answer = reference::read_data(twin(shape), cube, &mut expected);
-    let result = read_data(shape, lent_cube.bytes(), data.bytes_mut());
-    assert_eq!(numbered(result), answer, "read_data {shape:?}");
-    data.assert_holds(&expected, &format!("read_data {shape:?}, data"));
-    lent_cube.assert_holds(cube, &format!("read_data {shape:?}, cube"));
+    let garbage = random.bytes(twin(shape).capacity());
+    agree(
+        &format!("read_data {shape:?}"),
+        random,
+        [cube, &garbage],
+        |[cube, data]| numbered(read_data(shape, cube, data)),
+        |[cube, data]| reference::read_data(twin(shape), cube, data),
+    );
 }
 
 #[test]
@@ -120,108 +119,47 @@ fn largest_cubes() {
     }
 }
 
+/// Both calls, lent garbage of these lengths, refuse with the number and change no byte.
+fn assert_refused(shape: Shape, data_len: usize, cube_len: usize, number: u8) {
+    let mut random = Random::new(2005);
+    let what = format!("{shape:?} with {data_len} and {cube_len} bytes");
+    let [data, cube] = [data_len, cube_len].map(|len| random.bytes(len));
+    let before: [&[u8]; 2] = [&data, &cube];
+    let calls = [
+        |[data, cube]: [&mut [u8]; 2], shape| encode(shape, data, cube),
+        |[data, cube]: [&mut [u8]; 2], shape| read_data(shape, cube, data),
+    ];
+    for call in calls {
+        let call = |lent: [&mut [u8]; 2]| numbered(call(lent, shape));
+        agree(&what, &mut random, before, call, |_| Err(number));
+    }
+}
+
 #[test]
 fn shapes_at_the_limits() {
-    let huge = usize::MAX;
-    // What the answer is where both slices have the length of the 3 by 3 by 3 cube with W 1: 1 and 27 bytes.
-    for (l1, l2, l3, w, answer) in [
-        (3, 3, 3, 1, Ok(())),
-        (2, 3, 3, 1, Err(1)),
-        (3, 2, 3, 1, Err(1)),
-        (3, 3, 2, 1, Err(1)),
-        (0, 3, 3, 1, Err(1)),
-        (3, 0, 3, 1, Err(1)),
-        (3, 3, 0, 1, Err(1)),
-        (256, 3, 3, 1, Err(1)),
-        (3, 256, 3, 1, Err(1)),
-        (3, 3, 256, 1, Err(1)),
-        (huge, 3, 3, 1, Err(1)),
-        (3, huge, 3, 1, Err(1)),
-        (3, 3, huge, 1, Err(1)),
-        (huge, huge, huge, huge, Err(1)),
-        // 3 modulo 256 and modulo 2^32.
-        (259, 3, 3, 1, Err(1)),
-        (3, (1 << 32) + 3, 3, 1, Err(1)),
-        (3, 3, 3, 0, Err(2)),
-        (3, 3, 3, 1025, Err(2)),
-        (3, 3, 3, huge, Err(2)),
-        (3, 3, 3, (1 << 32) + 1, Err(2)),
-        (255, 255, 255, 17, Err(3)),
-        (255, 255, 255, 1024, Err(3)),
-        (255, 255, 65, 1017, Err(3)),
-        (128, 128, 17, 1024, Err(3)),
-        // 10 bytes too many.
-        (26, 167, 211, 293, Err(3)),
-        // The first of several reasons counts.
-        (2, 3, 3, 0, Err(1)),
-        (255, 255, 256, 17, Err(1)),
-        (255, 255, 255, 1025, Err(2)),
-        // The shape is good, so the lengths of the slices are wrong.
-        (255, 3, 3, 1, Err(4)),
-        (3, 255, 3, 1, Err(4)),
-        (3, 3, 255, 1, Err(4)),
-        (3, 3, 3, 1024, Err(4)),
-        (255, 255, 255, 16, Err(4)),
-        (128, 128, 16, 1024, Err(4)),
-        // One byte below the most.
-        (113, 127, 215, 87, Err(4)),
-        (4, 3, 3, 1, Err(4)),
-        (3, 3, 3, 2, Err(4)),
-    ] {
-        let shape = Shape::new(l1, l2, l3, w);
-        assert_eq!(
-            twin(shape).check(None).is_ok(),
-            !matches!(answer, Err(1..=3))
-        );
-        assert_refused_or_done(shape, 1, 27, answer);
+    for (shape, number) in SHAPES_AT_THE_LIMITS {
+        assert_refused(shape, 2, 28, number);
     }
 }
 
 #[test]
 fn slices_of_other_lengths() {
     // 5 by 4 by 3 cells of 2 bytes: data of 12 bytes, a cube of 120.
-    let shape = Shape::new(5, 4, 3, 2);
-    for (data_len, cube_len, answer) in [
-        (12, 120, Ok(())),
-        (11, 120, Err(4)),
-        (13, 120, Err(4)),
-        (12, 119, Err(4)),
-        (12, 121, Err(4)),
-        (0, 120, Err(4)),
-        (12, 0, Err(4)),
-        (0, 0, Err(4)),
-        (120, 12, Err(4)),
-        (120, 120, Err(4)),
+    for (data_len, cube_len) in [
+        (11, 120),
+        (13, 120),
+        (12, 119),
+        (12, 121),
+        (0, 120),
+        (12, 0),
+        (0, 0),
+        (120, 12),
+        (120, 120),
         // As if W were 1.
-        (6, 60, Err(4)),
-        (12, 60, Err(4)),
+        (6, 60),
+        (12, 60),
     ] {
-        assert_refused_or_done(shape, data_len, cube_len, answer);
-    }
-}
-
-/// Both calls give the answer; a refused one changes no byte.
-fn assert_refused_or_done(shape: Shape, data_len: usize, cube_len: usize, answer: Result<(), u8>) {
-    let mut random = Random::new(2005);
-    let what = format!("{shape:?} with {data_len} and {cube_len} bytes");
-    let data = random.bytes(data_len);
-    let cube = random.bytes(cube_len);
-
-    let mut lent_data = Lent::new(&mut random, &data);
-    let mut lent_cube = Lent::new(&mut random, &cube);
-    let result = encode(shape, lent_data.bytes(), lent_cube.bytes_mut());
-    assert_eq!(numbered(result), answer, "encode {what}");
-    lent_data.assert_holds(&data, &what);
-    if answer.is_err() {
-        lent_cube.assert_holds(&cube, &what);
-    }
-
-    lent_cube = Lent::new(&mut random, &cube);
-    let result = read_data(shape, lent_cube.bytes(), lent_data.bytes_mut());
-    assert_eq!(numbered(result), answer, "read_data {what}");
-    lent_cube.assert_holds(&cube, &what);
-    if answer.is_err() {
-        lent_data.assert_holds(&data, &what);
+        assert_refused(Shape::new(5, 4, 3, 2), data_len, cube_len, 4);
     }
 }
 
@@ -241,28 +179,27 @@ fn lengths_and_widths_that_pass() {
 
 #[test]
 fn sizes_of_a_shape() {
-    for (l1, l2, l3, w) in [
-        (3, 3, 3, 1),
-        (69, 69, 25, 397),
-        (255, 255, 255, 16),
-        (128, 128, 16, 1024),
-        (2, 3, 3, 0),
-        (3, 3, 3, 0),
-        (255, 255, 255, 17),
-        (usize::MAX, usize::MAX, usize::MAX, usize::MAX),
-    ] {
-        let shape = Shape::new(l1, l2, l3, w);
+    for (shape, number) in SHAPES_AT_THE_LIMITS {
         let other = twin(shape);
-        let checked = other.check(None);
-        assert_eq!(numbered(shape.check()), checked);
-        assert_eq!(numbered(shape.cells()), checked.map(|()| other.cells()));
-        assert_eq!(
-            numbered(shape.cube_len()),
-            checked.map(|()| other.cube_len())
-        );
-        assert_eq!(
-            numbered(shape.data_len()),
-            checked.map(|()| other.capacity())
-        );
+        let sizes = [
+            shape.check().map(|()| 0),
+            shape.cells(),
+            shape.cube_len(),
+            shape.data_len(),
+            shape.pack_len(),
+            shape.file_len(),
+        ];
+        let expected = match number {
+            4 => [
+                Ok(0),
+                Ok(other.cells()),
+                Ok(other.cube_len()),
+                Ok(other.capacity()),
+                Ok(other.pack_len()),
+                other.capacity().checked_sub(4).ok_or(10),
+            ],
+            _ => [Err(number); 6],
+        };
+        assert_eq!(sizes.map(numbered), expected, "{shape:?}");
     }
 }

@@ -1,10 +1,10 @@
 //! Filling compared with the independent program: answer, cube and flags, with garbage in missing cells.
 
-mod support;
-
+use compare::{
+    Embedded, SHAPES_AT_THE_LIMITS, agree, numbered, random_code_cube, random_shape, twin,
+};
 use jibrufath::{Shape, fill};
 use reference::random::Random;
-use support::{Lent, numbered, random_shape, twin};
 
 /// A cube and its flags, before a call.
 struct Trial {
@@ -16,12 +16,18 @@ struct Trial {
 impl Trial {
     /// A random code cube with no cell missing.
     fn new(random: &mut Random, shape: Shape) -> Trial {
-        let twin = twin(shape);
-        let data = random.bytes(twin.capacity());
-        let mut cube = vec![0; twin.cube_len()];
-        reference::encode(twin, &data, &mut cube).expect("the shape is good");
-        let flags = vec![0; twin.cells()];
+        let cube = random_code_cube(random, shape);
+        let flags = vec![0; twin(shape).cells()];
         Trial { shape, cube, flags }
+    }
+
+    /// A random code cube without the cells of the pattern.
+    fn without(random: &mut Random, pattern: &Embedded) -> Trial {
+        let mut trial = Trial::new(random, pattern.shape);
+        for &cell in &pattern.cells {
+            trial.lose(random, cell);
+        }
+        trial
     }
 
     /// Makes a cell missing, with garbage for its bytes.
@@ -49,71 +55,14 @@ impl Trial {
     /// Runs both programs, compares all that they leave, and hands back the answer.
     fn compare(&self, random: &mut Random) -> Result<usize, u8> {
         let shape = self.shape;
-        let mut cube = Lent::new(random, &self.cube);
-        let mut flags = Lent::new(random, &self.flags);
-        let [mut expected_cube, mut expected_flags] = [self.cube.clone(), self.flags.clone()];
-        let answer = reference::fill(twin(shape), &mut expected_cube, &mut expected_flags);
-        let result = fill(shape, cube.bytes_mut(), flags.bytes_mut());
-        assert_eq!(numbered(result), answer, "{shape:?}");
-        cube.assert_holds(&expected_cube, &format!("{shape:?}, {answer:?}, cube"));
-        flags.assert_holds(&expected_flags, &format!("{shape:?}, {answer:?}, flags"));
-        answer
-    }
-}
-
-/// A pattern of cells in a box, put at random coordinates of a shape, with the axes in random order.
-struct Embedded {
-    shape: Shape,
-    /// The cells of the pattern.
-    cells: Vec<usize>,
-    /// The other cells of the box.
-    rest: Vec<usize>,
-}
-
-impl Embedded {
-    /// The shape's lengths are at most `room` above those of the box.
-    fn new(
-        random: &mut Random,
-        sizes: [usize; 3],
-        room: usize,
-        in_pattern: impl Fn([usize; 3]) -> bool,
-    ) -> Embedded {
-        let axes = random.different(3, 3);
-        let mut lengths = [0; 3];
-        let mut coordinates = Vec::new();
-        for (&axis, size) in axes.iter().zip(sizes) {
-            lengths[axis] = random.among(size..=(size + room).min(255));
-            coordinates.push(random.different(size, lengths[axis]));
-        }
-        let w = match random.among(0..=19) {
-            0 => random.among(60..=70),
-            _ => random.among(1..=4),
-        };
-        let shape = Shape::new(lengths[0], lengths[1], lengths[2], w);
-        let (mut cells, mut rest) = (Vec::new(), Vec::new());
-        for number in 0..sizes.iter().product() {
-            let place = reference::Shape { lengths: sizes, w }.coordinates(number);
-            let mut to = [0; 3];
-            for i in 0..3 {
-                to[axes[i]] = coordinates[i][place[i]];
-            }
-            let part = if in_pattern(place) {
-                &mut cells
-            } else {
-                &mut rest
-            };
-            part.push(twin(shape).cell(to));
-        }
-        Embedded { shape, cells, rest }
-    }
-
-    /// A random code cube without the cells of the pattern.
-    fn trial(&self, random: &mut Random) -> Trial {
-        let mut trial = Trial::new(random, self.shape);
-        for &cell in &self.cells {
-            trial.lose(random, cell);
-        }
-        trial
+        agree(
+            &format!("{shape:?}"),
+            random,
+            [&self.cube, &self.flags],
+            |[cube, flags]| numbered(fill(shape, cube, flags)),
+            |[cube, flags]| reference::fill(twin(shape), cube, flags),
+        )
+        .answer
     }
 }
 
@@ -226,7 +175,7 @@ fn stopping_sets() {
     for make in [block, off_diagonal, latin] {
         for case in 0..500 {
             let set = make(&mut random);
-            let mut trial = set.trial(&mut random);
+            let mut trial = Trial::without(&mut random, &set);
             if case % 2 == 0 {
                 assert_eq!(
                     trial.compare(&mut random),
@@ -254,7 +203,7 @@ fn stopping_set_but_for_one_cell() {
             // Any cell of the smallest block frees all others; of a larger set, perhaps none.
             let known = random.among(0..=set.cells.len() - 1);
             set.cells.swap_remove(known);
-            let left = set.trial(&mut random).compare(&mut random);
+            let left = Trial::without(&mut random, &set).compare(&mut random);
             assert!(left.expect("a code cube with losses") <= set.cells.len());
         }
     }
@@ -328,7 +277,7 @@ fn wrong_byte_on_lines_that_all_meet_the_stopping_set() {
     let mut random = Random::new(3010);
     for _ in 0..400 {
         let set = latin(&mut random);
-        let mut trial = set.trial(&mut random);
+        let mut trial = Trial::without(&mut random, &set);
         let wrong = random.pick(&set.rest);
         trial.spoil(&mut random, wrong);
         assert_eq!(
@@ -345,7 +294,7 @@ fn wrong_byte_on_one_line_that_misses_the_stopping_set() {
     let mut random = Random::new(3011);
     for _ in 0..400 {
         let set = off_diagonal(&mut random);
-        let mut trial = set.trial(&mut random);
+        let mut trial = Trial::without(&mut random, &set);
         let wrong = random.pick(&set.rest);
         trial.spoil(&mut random, wrong);
         assert_eq!(trial.compare(&mut random), Err(13), "{:?}", set.shape);
@@ -390,11 +339,14 @@ fn many_passes() {
         };
         if case % 10 < 2 {
             let left = set.cells.len();
-            assert_eq!(set.trial(&mut random).compare(&mut random), Ok(left));
+            assert_eq!(
+                Trial::without(&mut random, &set).compare(&mut random),
+                Ok(left)
+            );
         }
         let known = random.among(0..=set.cells.len() - 1);
         set.cells.swap_remove(known);
-        let trial = set.trial(&mut random);
+        let trial = Trial::without(&mut random, &set);
         assert!(passes(set.shape, &trial.flags).is_some_and(|passes| passes >= 9));
         assert_eq!(trial.compare(&mut random), Ok(0), "{:?}", set.shape);
     }
@@ -440,7 +392,10 @@ fn large_cubes() {
         (i + 255 - j) % 255 < 3
     });
     chain.cells.pop();
-    assert_eq!(chain.trial(&mut random).compare(&mut random), Ok(0));
+    assert_eq!(
+        Trial::without(&mut random, &chain).compare(&mut random),
+        Ok(0)
+    );
 }
 
 /// The 3 by 3 by 3 cube of document 01.
@@ -483,59 +438,55 @@ fn examples_of_document_01() {
     assert_eq!(trial.compare(&mut random), Ok(36));
 }
 
+/// The call, lent garbage and flags, refuses with the number and changes no byte.
+fn assert_refused(shape: Shape, cube_len: usize, flags: &[u8], number: u8) {
+    let mut random = Random::new(3015);
+    // Garbage is no code cube, so that 13 would be the answer if nothing came before it.
+    let cube = random.bytes(cube_len);
+    agree(
+        &format!("{shape:?}, {cube_len} bytes, flags {flags:?}"),
+        &mut random,
+        [&cube, flags],
+        |[cube, flags]| numbered(fill(shape, cube, flags)),
+        |_| Err(number),
+    );
+}
+
+#[test]
+fn shapes_at_the_limits() {
+    for (shape, number) in SHAPES_AT_THE_LIMITS {
+        assert_refused(shape, 28, &[0; 28], number);
+        assert_refused(shape, 28, &[2; 28], number);
+    }
+}
+
 #[test]
 fn refusals_change_no_byte() {
-    let huge = usize::MAX;
-    let mut random = Random::new(3015);
-    // 3 by 3 by 3 cells of 2 bytes: a cube of 54 bytes, 27 flags.
-    for (l1, l2, l3, w, cube_len, flags_len, bad_flag, number) in [
-        (2, 3, 3, 2, 54, 27, None, 1),
-        (3, 2, 3, 2, 54, 27, None, 1),
-        (3, 3, 2, 2, 54, 27, None, 1),
-        (256, 3, 3, 2, 54, 27, None, 1),
-        (3, 256, 3, 2, 54, 27, None, 1),
-        (3, 3, 256, 2, 54, 27, None, 1),
-        (huge, huge, huge, huge, 54, 27, None, 1),
-        (3, 3, 3, 0, 54, 27, None, 2),
-        (3, 3, 3, 1025, 54, 27, None, 2),
-        (3, 3, 3, huge, 54, 27, None, 2),
-        (255, 255, 255, 17, 54, 27, None, 3),
-        (26, 167, 211, 293, 54, 27, None, 3),
-        (255, 255, 255, 16, 54, 27, None, 4),
-        (3, 3, 3, 2, 53, 27, None, 4),
-        (3, 3, 3, 2, 55, 27, None, 4),
-        (3, 3, 3, 2, 54, 26, None, 4),
-        (3, 3, 3, 2, 54, 28, None, 4),
-        (3, 3, 3, 2, 54, 54, None, 4),
-        (3, 3, 3, 2, 27, 27, None, 4),
-        (3, 3, 3, 2, 0, 27, None, 4),
-        (3, 3, 3, 2, 54, 0, None, 4),
-        (3, 3, 3, 2, 0, 0, None, 4),
-        (3, 3, 3, 2, 54, 27, Some((0, 2)), 5),
-        (3, 3, 3, 2, 54, 27, Some((26, 2)), 5),
-        (3, 3, 3, 2, 54, 27, Some((13, 255)), 5),
-        (3, 3, 3, 2, 54, 27, Some((26, 128)), 5),
+    let good = Shape::new(3, 3, 3, 2);
+    // A cube of 54 bytes, 27 flags; one of them bad.
+    for (cube_len, flags_len, bad_flag, number) in [
+        (53, 27, None, 4),
+        (55, 27, None, 4),
+        (54, 26, None, 4),
+        (54, 28, None, 4),
+        (54, 54, None, 4),
+        (27, 27, None, 4),
+        (0, 27, None, 4),
+        (54, 0, None, 4),
+        (0, 0, None, 4),
+        (54, 27, Some((0, 2)), 5),
+        (54, 27, Some((26, 2)), 5),
+        (54, 27, Some((13, 255)), 5),
+        (54, 27, Some((26, 128)), 5),
         // The first of several reasons counts.
-        (2, 3, 3, 0, 53, 26, Some((0, 2)), 1),
-        (255, 255, 255, 1025, 54, 27, Some((0, 2)), 2),
-        (255, 255, 255, 17, 53, 27, Some((0, 2)), 3),
-        (3, 3, 3, 2, 53, 27, Some((0, 2)), 4),
-        (3, 3, 3, 2, 54, 28, Some((27, 2)), 4),
+        (53, 27, Some((0, 2)), 4),
+        (54, 28, Some((27, 2)), 4),
     ] {
-        let shape = Shape::new(l1, l2, l3, w);
-        // Garbage is no code cube, so that 13 would be the answer if nothing came before it.
-        let mut cube = Lent::garbage(&mut random, cube_len);
-        let cube_before = cube.bytes().to_vec();
-        let mut flags_before: Vec<u8> = (0..flags_len).map(|i| (i % 9 == 4) as u8).collect();
+        let mut flags: Vec<u8> = (0..flags_len).map(|i| (i % 9 == 4) as u8).collect();
         if let Some((place, flag)) = bad_flag {
-            flags_before[place] = flag;
+            flags[place] = flag;
         }
-        let mut flags = Lent::new(&mut random, &flags_before);
-        let result = fill(shape, cube.bytes_mut(), flags.bytes_mut());
-        let what = format!("{shape:?}, {cube_len} and {flags_len} bytes, {bad_flag:?}");
-        assert_eq!(numbered(result), Err(number), "{what}");
-        cube.assert_holds(&cube_before, &what);
-        flags.assert_holds(&flags_before, &what);
+        assert_refused(good, cube_len, &flags, number);
     }
 }
 
@@ -548,16 +499,16 @@ fn contradiction_clears_only_missing_cells() {
     for cell in [0, 13, 14] {
         trial.lose(&mut random, cell);
     }
-    let mut after = trial.cube.clone();
-    for cell in [0, 13, 14] {
-        after[2 * cell..2 * cell + 2].fill(0x00);
-    }
-    let mut cube = Lent::new(&mut random, &trial.cube);
-    let mut flags = Lent::new(&mut random, &trial.flags);
-    assert_eq!(
-        numbered(fill(shape, cube.bytes_mut(), flags.bytes_mut())),
-        Err(13)
+    agree(
+        "contradiction",
+        &mut random,
+        [&trial.cube, &trial.flags],
+        |[cube, flags]| numbered(fill(shape, cube, flags)),
+        |[cube, _]| {
+            for cell in [0, 13, 14] {
+                cube[2 * cell..2 * cell + 2].fill(0x00);
+            }
+            Err(13)
+        },
     );
-    cube.assert_holds(&after, "cube");
-    flags.assert_holds(&trial.flags, "flags");
 }

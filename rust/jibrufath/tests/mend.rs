@@ -1,11 +1,9 @@
 //! Mending and its passes compared with the independent program: restored, refused, or another code cube.
 
-mod support;
-
+use compare::{SHAPES_AT_THE_LIMITS, agree, numbered, random_code_cube, random_shape, twin};
 use jibrufath::{Shape, mend, mend_pass};
 use reference::field::{inverse, mul, pow};
 use reference::random::Random;
-use support::{Lent, numbered, random_shape, twin};
 
 /// What became of a damaged cube.
 #[derive(Clone, Copy, Debug, PartialEq, Eq)]
@@ -33,28 +31,20 @@ impl Tally {
     }
 }
 
-fn random_code_cube(random: &mut Random, shape: Shape) -> Vec<u8> {
-    let data = random.bytes(twin(shape).capacity());
-    let mut cube = vec![0; twin(shape).cube_len()];
-    reference::encode(twin(shape), &data, &mut cube).expect("the shape is good");
-    cube
-}
-
 /// Mends a damaged cube by both programs, and compares all that they leave.
 fn compare(random: &mut Random, shape: Shape, right: &[u8], damaged: &[u8]) -> Outcome {
     let all_known = vec![0; twin(shape).cells()];
-    let cube = Lent::new(random, damaged);
-    let flags = Lent::new(random, &all_known);
-    let mut second = Lent::garbage(random, damaged.len());
-    let mut expected = second.bytes().to_vec();
-    let answer = reference::mend(twin(shape), damaged, &all_known, &mut expected);
-    let result = mend(shape, cube.bytes(), flags.bytes(), second.bytes_mut());
-    assert_eq!(numbered(result), answer, "{shape:?}");
-    second.assert_holds(&expected, &format!("{shape:?}, {answer:?}, second cube"));
-    cube.assert_holds(damaged, &format!("{shape:?}, {answer:?}, cube"));
-    flags.assert_holds(&all_known, &format!("{shape:?}, {answer:?}, flags"));
-    match answer {
-        Ok(()) if second.bytes() == right => Outcome::Restored,
+    let garbage = random.bytes(damaged.len());
+    let agreed = agree(
+        &format!("{shape:?}"),
+        random,
+        [damaged, &all_known, &garbage],
+        |[cube, flags, second]| numbered(mend(shape, cube, flags, second)),
+        |[cube, flags, second]| reference::mend(twin(shape), cube, flags, second),
+    );
+    let [_, _, second] = agreed.after;
+    match agreed.answer {
+        Ok(()) if second == right => Outcome::Restored,
         Ok(()) => Outcome::OtherCodeCube,
         Err(_) => Outcome::Refused,
     }
@@ -63,13 +53,18 @@ fn compare(random: &mut Random, shape: Shape, right: &[u8], damaged: &[u8]) -> O
 /// One pass along each axis, from the same cube, by both programs.
 fn compare_passes(random: &mut Random, shape: Shape, damaged: &[u8]) {
     for axis in 1..=3 {
-        let mut cube = Lent::new(random, damaged);
-        let mut expected = damaged.to_vec();
-        let answer = reference::mend_pass(twin(shape), axis, &mut expected);
-        let result = mend_pass(shape, axis, cube.bytes_mut());
-        assert_eq!(numbered(result), answer, "{shape:?}, axis {axis}");
-        cube.assert_holds(&expected, &format!("{shape:?}, axis {axis}"));
+        compare_pass(random, shape, axis, damaged);
     }
+}
+
+fn compare_pass(random: &mut Random, shape: Shape, axis: usize, damaged: &[u8]) {
+    agree(
+        &format!("{shape:?}, axis {axis}"),
+        random,
+        [damaged],
+        |[cube]| numbered(mend_pass(shape, axis, cube)),
+        |[cube]| reference::mend_pass(twin(shape), axis, cube),
+    );
 }
 
 /// The cells of a box of random places along each axis: `sizes` of them.
@@ -318,113 +313,103 @@ fn lines_with_every_pair_of_sums() {
                 cube[usize::from(second)] = first ^ c1;
                 cube[shape.w + usize::from(second)] = c1;
             }
-            let mut lent = Lent::new(&mut random, &cube);
-            let mut expected = cube.clone();
-            reference::mend_pass(twin(shape), 1, &mut expected).expect("the shape is good");
-            mend_pass(shape, 1, lent.bytes_mut()).expect("the shape is good");
-            lent.assert_holds(&expected, &format!("length {l1}, first sum {first:02X}h"));
+            compare_pass(&mut random, shape, 1, &cube);
+        }
+    }
+}
+
+/// Mending, lent garbage and flags, refuses with the number and changes no byte.
+fn assert_refused(shape: Shape, [cube, second]: [usize; 2], flags: &[u8], number: u8) {
+    let mut random = Random::new(4009);
+    // Garbage is no code cube, so that 16 would be the answer if nothing came before it.
+    let [cube, second] = [cube, second].map(|len| random.bytes(len));
+    agree(
+        &format!(
+            "{shape:?}, {} and {} bytes, flags {flags:?}",
+            cube.len(),
+            second.len()
+        ),
+        &mut random,
+        [&cube, flags, &second],
+        |[cube, flags, second]| numbered(mend(shape, cube, flags, second)),
+        |_| Err(number),
+    );
+}
+
+/// A pass, lent garbage, refuses with the number and changes no byte.
+fn assert_pass_refused(shape: Shape, axis: usize, len: usize, number: u8) {
+    let mut random = Random::new(4010);
+    let cube = random.bytes(len);
+    agree(
+        &format!("{shape:?}, axis {axis}, {len} bytes"),
+        &mut random,
+        [&cube],
+        |[cube]| numbered(mend_pass(shape, axis, cube)),
+        |_| Err(number),
+    );
+}
+
+#[test]
+fn shapes_at_the_limits() {
+    for (shape, number) in SHAPES_AT_THE_LIMITS {
+        assert_refused(shape, [28, 28], &[2; 28], number);
+        for axis in 1..=3 {
+            assert_pass_refused(shape, axis, 28, number);
+        }
+        // The axis is asked for beside the lengths, before W.
+        for axis in [0, 4, usize::MAX] {
+            assert_pass_refused(shape, axis, 28, 1);
         }
     }
 }
 
 #[test]
 fn refusals_change_no_byte() {
-    let huge = usize::MAX;
-    let mut random = Random::new(4009);
-    // 3 by 3 by 3 cells of 2 bytes: cubes of 54 bytes, 27 flags; the flags that are not 0.
-    for (l1, l2, l3, w, lens, marked, number) in [
-        (2, 3, 3, 2, [54, 27, 54], &[] as &[(usize, u8)], 1),
-        (3, 2, 3, 2, [54, 27, 54], &[], 1),
-        (3, 3, 2, 2, [54, 27, 54], &[], 1),
-        (256, 3, 3, 2, [54, 27, 54], &[], 1),
-        (3, 256, 3, 2, [54, 27, 54], &[], 1),
-        (3, 3, 256, 2, [54, 27, 54], &[], 1),
-        (huge, huge, huge, huge, [54, 27, 54], &[], 1),
-        (3, 3, 3, 0, [54, 27, 54], &[], 2),
-        (3, 3, 3, 1025, [54, 27, 54], &[], 2),
-        (3, 3, 3, huge, [54, 27, 54], &[], 2),
-        (255, 255, 255, 17, [54, 27, 54], &[], 3),
-        (26, 167, 211, 293, [54, 27, 54], &[], 3),
-        (255, 255, 255, 16, [54, 27, 54], &[], 4),
-        (3, 3, 3, 2, [53, 27, 54], &[], 4),
-        (3, 3, 3, 2, [55, 27, 54], &[], 4),
-        (3, 3, 3, 2, [54, 26, 54], &[], 4),
-        (3, 3, 3, 2, [54, 28, 54], &[], 4),
-        (3, 3, 3, 2, [54, 27, 53], &[], 4),
-        (3, 3, 3, 2, [54, 27, 55], &[], 4),
-        (3, 3, 3, 2, [0, 0, 0], &[], 4),
-        (3, 3, 3, 2, [54, 54, 54], &[], 4),
-        (3, 3, 3, 2, [54, 27, 54], &[(0, 2)], 5),
-        (3, 3, 3, 2, [54, 27, 54], &[(26, 255)], 5),
-        (3, 3, 3, 2, [54, 27, 54], &[(0, 1)], 15),
-        (3, 3, 3, 2, [54, 27, 54], &[(26, 1)], 15),
+    let good = Shape::new(3, 3, 3, 2);
+    // Cubes of 54 bytes, 27 flags; those that are not 0.
+    for (cubes, flags_len, marked, number) in [
+        ([53, 54], 27, &[] as &[(usize, u8)], 4),
+        ([55, 54], 27, &[], 4),
+        ([54, 54], 26, &[], 4),
+        ([54, 54], 28, &[], 4),
+        ([54, 53], 27, &[], 4),
+        ([54, 55], 27, &[], 4),
+        ([0, 0], 0, &[], 4),
+        ([54, 54], 54, &[], 4),
+        ([54, 54], 27, &[(0, 2)], 5),
+        ([54, 54], 27, &[(26, 255)], 5),
+        ([54, 54], 27, &[(0, 1)], 15),
+        ([54, 54], 27, &[(26, 1)], 15),
         // 5 is asked of all flags before 15.
-        (3, 3, 3, 2, [54, 27, 54], &[(0, 1), (26, 2)], 5),
-        (3, 3, 3, 2, [54, 27, 54], &[(0, 2), (26, 1)], 5),
+        ([54, 54], 27, &[(0, 1), (26, 2)], 5),
+        ([54, 54], 27, &[(0, 2), (26, 1)], 5),
         // The first of several reasons counts.
-        (2, 3, 3, 0, [53, 27, 54], &[(0, 2)], 1),
-        (255, 255, 255, 1025, [53, 27, 54], &[(0, 2)], 2),
-        (255, 255, 255, 17, [53, 27, 54], &[(0, 2)], 3),
-        (3, 3, 3, 2, [54, 27, 53], &[(0, 1), (26, 2)], 4),
+        ([54, 53], 27, &[(0, 1), (26, 2)], 4),
     ] {
-        let shape = Shape::new(l1, l2, l3, w);
-        let what = format!("{shape:?}, lengths {lens:?}, flags {marked:?}");
-        // Garbage is no code cube, so that 16 would be the answer if nothing came before it.
-        let [cube, _, mut second] = lens.map(|len| Lent::garbage(&mut random, len));
-        let [cube_before, second_before] = [&cube, &second].map(|lent| lent.bytes().to_vec());
-        let mut flags_before = vec![0; lens[1]];
+        let mut flags = vec![0; flags_len];
         for &(place, flag) in marked {
-            flags_before[place] = flag;
+            flags[place] = flag;
         }
-        let flags = Lent::new(&mut random, &flags_before);
-        let result = mend(shape, cube.bytes(), flags.bytes(), second.bytes_mut());
-        assert_eq!(numbered(result), Err(number), "{what}");
-        cube.assert_holds(&cube_before, &what);
-        flags.assert_holds(&flags_before, &what);
-        second.assert_holds(&second_before, &what);
+        assert_refused(good, cubes, &flags, number);
     }
 }
 
 #[test]
 fn refusals_of_a_pass_change_no_byte() {
-    let huge = usize::MAX;
-    let mut random = Random::new(4010);
-    for (l1, l2, l3, w, axis, len, answer) in [
-        (3, 3, 3, 2, 1, 54, Ok(())),
-        (3, 3, 3, 2, 3, 54, Ok(())),
-        (3, 3, 3, 2, 0, 54, Err(1)),
-        (3, 3, 3, 2, 4, 54, Err(1)),
-        (3, 3, 3, 2, huge, 54, Err(1)),
+    let good = Shape::new(3, 3, 3, 2);
+    for (axis, len, number) in [
+        (0, 54, 1),
+        (4, 54, 1),
+        (usize::MAX, 54, 1),
         // 1 modulo 256 and modulo 2^32.
-        (3, 3, 3, 2, 257, 54, Err(1)),
-        (3, 3, 3, 2, (1 << 32) + 1, 54, Err(1)),
-        (2, 3, 3, 2, 1, 54, Err(1)),
-        (3, 256, 3, 2, 2, 54, Err(1)),
-        (3, 3, huge, 2, 3, 54, Err(1)),
-        (3, 3, 3, 0, 1, 54, Err(2)),
-        (3, 3, 3, 1025, 2, 54, Err(2)),
-        (3, 3, 3, huge, 3, 54, Err(2)),
-        (255, 255, 255, 17, 1, 54, Err(3)),
-        (26, 167, 211, 293, 3, 54, Err(3)),
-        (255, 255, 255, 16, 1, 54, Err(4)),
-        (3, 3, 3, 2, 1, 53, Err(4)),
-        (3, 3, 3, 2, 2, 55, Err(4)),
-        (3, 3, 3, 2, 3, 0, Err(4)),
+        (257, 54, 1),
+        ((1 << 32) + 1, 54, 1),
+        (1, 53, 4),
+        (2, 55, 4),
+        (3, 0, 4),
         // The first of several reasons counts.
-        (3, 3, 3, 0, 4, 53, Err(1)),
-        (255, 255, 255, 17, 0, 54, Err(1)),
-        (3, 3, 3, 2, 4, 53, Err(1)),
-        (255, 255, 255, 1025, 1, 53, Err(2)),
-        (255, 255, 255, 17, 1, 53, Err(3)),
+        (4, 53, 1),
     ] {
-        let shape = Shape::new(l1, l2, l3, w);
-        let what = format!("{shape:?}, axis {axis}, {len} bytes");
-        let mut cube = Lent::garbage(&mut random, len);
-        let before = cube.bytes().to_vec();
-        let result = mend_pass(shape, axis, cube.bytes_mut());
-        assert_eq!(numbered(result), answer, "{what}");
-        if answer.is_err() {
-            cube.assert_holds(&before, &what);
-        }
+        assert_pass_refused(good, axis, len, number);
     }
 }

@@ -2,7 +2,7 @@
 //!
 //! It is made to be compared with, so it takes other ways than the library where it can: log tables for
 //! the field, linear equations for encoding and filling small cubes, another order of axes for encoding
-//! large ones, a work list for filling them. Clarity comes before speed.
+//! large ones, a work list for filling them, a map of the packets that were heard. Clarity comes before speed.
 //!
 //! Each operation answers `Err(number)` with the number of document 01's table, and leaves lent memory
 //! as that document says.
@@ -12,13 +12,19 @@ pub mod field;
 pub mod fill;
 pub mod linear;
 pub mod mend;
+pub mod pack;
+pub mod programs;
 pub mod random;
+pub mod receive;
 pub mod shape;
+pub mod write;
 
 pub use encode::{encode, read_data};
 pub use fill::fill;
 pub use mend::{mend, mend_pass};
+pub use receive::{Outcome, Received, Refusal, receive_pack};
 pub use shape::Shape;
+pub use write::write_pack;
 
 /// Cubes of at most this many cells are encoded and filled by solving the equations of all their lines.
 pub const CELLS_BY_EQUATIONS: usize = 64;

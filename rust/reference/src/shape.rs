@@ -1,6 +1,7 @@
 //! Shapes, cells and lines of a cube, and what makes a line right.
 
 use crate::field::{pow, products};
+use crate::pack::COUNT;
 
 /// The largest cube, in bytes.
 const MOST_BYTES: u64 = 268_435_456;
@@ -70,6 +71,21 @@ impl Shape {
     /// The bytes of a data string.
     pub fn capacity(self) -> usize {
         self.w * self.lengths.iter().map(|l| l - 2).product::<usize>()
+    }
+
+    /// The most bytes of a file: what the data string has beside the file's length.
+    pub fn file_room(self) -> usize {
+        self.capacity() - COUNT
+    }
+
+    /// The bytes of a packet: three coordinates and the cell.
+    pub fn packet_len(self) -> usize {
+        3 + self.w
+    }
+
+    /// The bytes of a written pack.
+    pub fn pack_len(self) -> usize {
+        17 + self.cells() * self.packet_len()
     }
 
     /// The number of cell (a, b, c).

@@ -1,0 +1,15 @@
+//! What every comparison of the library with the independent program needs: random inputs, lent memory that shows a byte
+//! written beside it, and one function that runs both programs.
+
+mod agreement;
+mod cubes;
+mod packs;
+mod shapes;
+mod trial;
+
+use agreement::compare;
+pub use agreement::{Agreed, agree, numbered};
+pub use cubes::{Embedded, random_code_cube};
+pub use packs::{KINDS, Source};
+pub use shapes::{SHAPES_AT_THE_LIMITS, random_shape, twin};
+pub use trial::{Answers, Lens, Trial};

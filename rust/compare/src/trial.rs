@@ -1,0 +1,134 @@
+//! One pack for the writer and the receiver of both programs.
+
+use jibrufath::{Outcome, receive_pack, write_pack};
+use reference::Shape;
+use reference::pack::read_shape;
+use reference::random::Random;
+
+use crate::{KINDS, compare, numbered};
+
+/// A pack, and the lengths of the slices that are lent with it.
+#[derive(Debug)]
+pub struct Trial {
+    pub pack: Vec<u8>,
+    pub lens: Lens,
+}
+
+/// The lengths of lent slices.
+#[derive(Clone, Copy, Debug)]
+pub struct Lens {
+    pub cube: usize,
+    pub flags: usize,
+    pub file: usize,
+    pub output: usize,
+}
+
+/// What the writer and the receiver answer to one pack.
+#[derive(Clone, Copy, Debug, PartialEq, Eq)]
+pub struct Answers {
+    pub write: Result<(), u8>,
+    pub receive: Result<reference::Received, reference::Refusal>,
+}
+
+/// No cube above so many bytes is lent.
+const MOST_BYTES: usize = 1_000_000;
+
+impl Lens {
+    /// The exact lengths for a shape.
+    pub fn exact(shape: Shape) -> Lens {
+        Lens {
+            cube: shape.cube_len(),
+            flags: shape.cells(),
+            file: shape.file_room(),
+            output: shape.pack_len(),
+        }
+    }
+
+    /// All of them, to be changed.
+    pub fn each_mut(&mut self) -> [&mut usize; 4] {
+        [
+            &mut self.cube,
+            &mut self.flags,
+            &mut self.file,
+            &mut self.output,
+        ]
+    }
+}
+
+impl Trial {
+    /// The pack, with slices of the exact lengths for its shape; those of a small cube where it has no good shape or too large
+    /// a one.
+    pub fn new(pack: Vec<u8>) -> Trial {
+        let shape = read_shape(&pack).ok();
+        let shape = shape.filter(|shape| shape.cube_len() <= MOST_BYTES);
+        let lens = Lens::exact(shape.unwrap_or(Shape::new(3, 3, 3, 5)));
+        Trial { pack, lens }
+    }
+
+    /// A pack of this kind. Now and then one slice has a wrong length.
+    pub fn random(random: &mut Random, kind: usize) -> Trial {
+        let (_, make) = KINDS[kind];
+        let mut trial = Trial::new(make(random));
+        if random.chance(5) {
+            let slice = random.among(0..=3);
+            let len = &mut *trial.lens.each_mut()[slice];
+            *len = random.pick(&[*len + 1, len.saturating_sub(1)]);
+        }
+        trial
+    }
+
+    /// Gives the pack to the writer and to the receiver of both programs, over garbage, and compares the answers and every
+    /// lent byte.
+    pub fn compare(&self, random: &mut Random) -> Result<Answers, String> {
+        let Lens {
+            cube,
+            flags,
+            file,
+            output,
+        } = self.lens;
+        let garbage = [cube, flags, file, output].map(|len| random.bytes(len));
+        let [cube, flags, file, output] = garbage.each_ref().map(Vec::as_slice);
+        let write = compare(
+            random,
+            [&self.pack, cube, output],
+            |[job, cube, output]| numbered(write_pack(job, cube, output)),
+            |[job, cube, output]| reference::write_pack(job, cube, output),
+        );
+        let receive = compare(
+            random,
+            [&self.pack, cube, flags, file],
+            |[air, cube, flags, file]| told(receive_pack(air, cube, flags, file)),
+            |[air, cube, flags, file]| reference::receive_pack(air, cube, flags, file),
+        );
+        Ok(Answers {
+            write: write
+                .map_err(|difference| format!("writer: {difference}"))?
+                .answer,
+            receive: receive
+                .map_err(|difference| format!("receiver: {difference}"))?
+                .answer,
+        })
+    }
+}
+
+/// The library's answer as the independent program gives it.
+fn told(
+    result: Result<jibrufath::Received, jibrufath::Refusal>,
+) -> Result<reference::Received, reference::Refusal> {
+    let jibrufath::Received {
+        outcome,
+        packets,
+        repeats,
+    } = result.map_err(|refusal| reference::Refusal {
+        number: refusal.number(),
+        packet: refusal.packet(),
+    })?;
+    Ok(reference::Received {
+        outcome: match outcome {
+            Outcome::File { len } => reference::Outcome::File { len },
+            Outcome::Left { cells } => reference::Outcome::Left { cells },
+        },
+        packets,
+        repeats,
+    })
+}

@@ -1,0 +1,210 @@
+//! Packs: three sections, each after its count, as the writer and the receiver read them.
+
+use crate::Shape;
+
+/// The bytes of a count, and of the file's length that begins the data string.
+pub const COUNT: usize = 4;
+
+/// A pack for the writer: its section 2 is a file, its section 3 is empty.
+#[derive(Debug, PartialEq, Eq)]
+pub struct Job<'a> {
+    pub shape: Shape,
+    pub file: &'a [u8],
+}
+
+/// A pack for the receiver: its section 2 is empty, its section 3 holds packets.
+#[derive(Debug, PartialEq, Eq)]
+pub struct Air<'a> {
+    pub shape: Shape,
+    pub packets: Vec<Packet<'a>>,
+}
+
+/// The coordinates of a cell, perhaps of none, and its bytes.
+#[derive(Clone, Copy, Debug, PartialEq, Eq)]
+pub struct Packet<'a> {
+    pub place: [u8; 3],
+    pub bytes: &'a [u8],
+}
+
+/// Reads section 1 of a pack, as the writer and the receiver do.
+pub fn read_shape(pack: &[u8]) -> Result<Shape, u8> {
+    Rest(pack).shape()
+}
+
+/// Reads a pack as the writer does.
+pub fn read_job(pack: &[u8]) -> Result<Job<'_>, u8> {
+    let mut rest = Rest(pack);
+    let shape = rest.shape()?;
+    let count = rest.count()?;
+    if count > shape.file_room() as u64 {
+        return Err(10);
+    }
+    let file = rest.take(count)?;
+    if rest.count()? != 0 {
+        return Err(9);
+    }
+    rest.end()?;
+    Ok(Job { shape, file })
+}
+
+/// Reads a pack as the receiver does.
+pub fn read_air(pack: &[u8]) -> Result<Air<'_>, u8> {
+    let mut rest = Rest(pack);
+    let shape = rest.shape()?;
+    if rest.count()? != 0 {
+        return Err(9);
+    }
+    let packets = rest.count()?;
+    let section = rest.take(packets * shape.packet_len() as u64)?;
+    rest.end()?;
+    let packets = section.chunks(shape.packet_len()).map(|packet| {
+        let (place, bytes) = packet.split_at(3);
+        let place = place.try_into().expect("three coordinates");
+        Packet { place, bytes }
+    });
+    Ok(Air {
+        shape,
+        packets: packets.collect(),
+    })
+}
+
+/// The bytes of a pack that are not read yet.
+struct Rest<'a>(&'a [u8]);
+
+impl<'a> Rest<'a> {
+    fn take(&mut self, count: u64) -> Result<&'a [u8], u8> {
+        if count > self.0.len() as u64 {
+            return Err(6);
+        }
+        let (taken, rest) = self.0.split_at(count as usize);
+        self.0 = rest;
+        Ok(taken)
+    }
+
+    fn count(&mut self) -> Result<u64, u8> {
+        self.take(COUNT as u64).map(number)
+    }
+
+    /// Section 1: a good shape, whose data string has room for the file's length.
+    fn shape(&mut self) -> Result<Shape, u8> {
+        if self.count()? != 5 {
+            return Err(7);
+        }
+        let section = self.take(5)?;
+        let [l1, l2, l3] = [0, 1, 2].map(|axis| usize::from(section[axis]));
+        let shape = Shape::new(l1, l2, l3, number(&section[3..]) as usize);
+        shape.check(None)?;
+        if shape.capacity() < COUNT {
+            return Err(10);
+        }
+        Ok(shape)
+    }
+
+    fn end(self) -> Result<(), u8> {
+        if self.0.is_empty() { Ok(()) } else { Err(8) }
+    }
+}
+
+/// The number that these bytes write, low first.
+pub(crate) fn number(bytes: &[u8]) -> u64 {
+    bytes
+        .iter()
+        .rev()
+        .fold(0, |high, &byte| 256 * high + u64::from(byte))
+}
+
+/// The pack of this shape, file and packets. The lengths fit in a byte and W in two.
+pub fn pack(shape: Shape, file: &[u8], packets: &[Packet]) -> Vec<u8> {
+    let mut pack = count(5).to_vec();
+    pack.extend(shape.lengths.map(|length| length as u8));
+    pack.extend((shape.w as u16).to_le_bytes());
+    pack.extend(count(file.len()));
+    pack.extend(file);
+    pack.extend(count(packets.len()));
+    for packet in packets {
+        pack.extend(packet.place);
+        pack.extend(packet.bytes);
+    }
+    pack
+}
+
+/// The four bytes of a count.
+pub(crate) fn count(number: usize) -> [u8; COUNT] {
+    u32::try_from(number)
+        .expect("a count has four bytes")
+        .to_le_bytes()
+}
+
+/// The packet of a cell of a cube.
+pub fn packet(shape: Shape, cube: &[u8], cell: usize) -> Packet<'_> {
+    Packet {
+        place: shape.coordinates(cell).map(|coordinate| coordinate as u8),
+        bytes: &cube[shape.bytes(cell)],
+    }
+}
+
+#[cfg(test)]
+mod tests {
+    use super::*;
+
+    const SHAPE: [u8; 9] = [5, 0, 0, 0, 3, 3, 3, 5, 0];
+
+    fn with(rest: &[u8]) -> Vec<u8> {
+        [&SHAPE, rest].concat()
+    }
+
+    #[test]
+    fn numbers_are_low_byte_first() {
+        assert_eq!(number(&[0x01, 0x04]), 1025);
+        assert_eq!(number(&[0x00, 0x00, 0x00, 0x20]), 0x2000_0000);
+        assert_eq!(count(1025), [0x01, 0x04, 0x00, 0x00]);
+    }
+
+    #[test]
+    fn whole_packs() {
+        let shape = Shape::new(3, 3, 3, 5);
+        let job = pack(shape, &[0x08], &[]);
+        assert_eq!(job, with(&[1, 0, 0, 0, 0x08, 0, 0, 0, 0]));
+        let file: &[u8] = &[0x08];
+        assert_eq!(read_job(&job), Ok(Job { shape, file }));
+
+        let bytes: &[u8] = &[1, 2, 3, 4, 5];
+        let packets = vec![Packet {
+            place: [2, 1, 255],
+            bytes,
+        }];
+        let air = pack(shape, &[], &packets);
+        assert_eq!(
+            air,
+            with(&[0, 0, 0, 0, 1, 0, 0, 0, 2, 1, 255, 1, 2, 3, 4, 5])
+        );
+        assert_eq!(read_air(&air), Ok(Air { shape, packets }));
+    }
+
+    #[test]
+    fn checks_in_order() {
+        // The refusals of the writer and of the receiver.
+        for (pack, writer, receiver) in [
+            (vec![], 6, 6),
+            (vec![5, 0, 0], 6, 6),
+            (vec![4, 0, 0, 0], 7, 7),
+            (vec![5, 0, 0, 1], 7, 7),
+            (vec![5, 0, 0, 0, 2, 3, 3, 5], 6, 6),
+            (vec![5, 0, 0, 0, 2, 3, 3, 0, 0], 1, 1),
+            (vec![5, 0, 0, 0, 3, 3, 3, 0, 0], 2, 2),
+            (vec![5, 0, 0, 0, 255, 255, 65, 0xF9, 3], 3, 3),
+            (vec![5, 0, 0, 0, 3, 3, 3, 3, 0], 10, 10),
+            (with(&[0xFF; 3]), 6, 6),
+            (with(&[0xFF; 4]), 10, 9),
+            (with(&[2, 0, 0, 0]), 10, 9),
+            (with(&[1, 0, 0, 0]), 6, 9),
+            (with(&[0; 7]), 6, 6),
+            (with(&[0, 0, 0, 0, 1, 0, 0, 0]), 9, 6),
+            (with(&[0, 0, 0, 0, 0, 0, 0, 0x20]), 9, 6),
+            (with(&[0; 9]), 8, 8),
+        ] {
+            assert_eq!(read_job(&pack).err(), Some(writer), "{pack:?}");
+            assert_eq!(read_air(&pack).err(), Some(receiver), "{pack:?}");
+        }
+    }
+}

@@ -1,0 +1,54 @@
+//! The writer: a file becomes all packets of the code cube that holds it.
+
+use crate::pack::{Job, count, pack, packet, read_job};
+use crate::{Shape, encode};
+
+/// Writes the code cube of the job's file, and the pack of all its packets in cell order.
+pub fn write_pack(job: &[u8], cube: &mut [u8], output: &mut [u8]) -> Result<(), u8> {
+    let Job { shape, file } = read_job(job)?;
+    if cube.len() != shape.cube_len() || output.len() != shape.pack_len() {
+        return Err(4);
+    }
+    encode(shape, &data_string(shape, file), cube)?;
+    let packets: Vec<_> = (0..shape.cells())
+        .map(|cell| packet(shape, cube, cell))
+        .collect();
+    output.copy_from_slice(&pack(shape, &[], &packets));
+    Ok(())
+}
+
+/// The file's length, the file, then 00h to capacity.
+pub fn data_string(shape: Shape, file: &[u8]) -> Vec<u8> {
+    let mut data = count(file.len()).to_vec();
+    data.extend(file);
+    data.resize(shape.capacity(), 0x00);
+    data
+}
+
+#[cfg(test)]
+mod tests {
+    use super::*;
+
+    #[test]
+    fn packets_in_cell_order() {
+        let shape = Shape::new(4, 3, 3, 2);
+        let (mut cube, mut output) = (vec![0xAA; 72], vec![0xAA; 17 + 36 * 5]);
+        let job = pack(shape, &[], &[]);
+        assert_eq!(write_pack(&job, &mut cube, &mut output), Ok(()));
+        assert_eq!(cube, [0; 72]);
+        assert_eq!(
+            output[..17],
+            [5, 0, 0, 0, 4, 3, 3, 2, 0, 0, 0, 0, 0, 36, 0, 0, 0]
+        );
+        assert_eq!(output[17..27], [0, 0, 0, 0, 0, 1, 0, 0, 0, 0]);
+        assert_eq!(output[17 + 35 * 5..], [3, 2, 2, 0, 0]);
+    }
+
+    #[test]
+    fn data_strings() {
+        let shape = Shape::new(3, 3, 3, 6);
+        assert_eq!(data_string(shape, &[]), [0; 6]);
+        assert_eq!(data_string(shape, &[7]), [1, 0, 0, 0, 7, 0]);
+        assert_eq!(data_string(shape, &[7, 8]), [2, 0, 0, 0, 7, 8]);
+    }
+}
