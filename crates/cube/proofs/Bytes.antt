@@ -63,6 +63,10 @@ unfolding spot
 cell-byte m n w a b c t = simp (mul-assoc, mul-comm, mul-left-comm, mul-add, add-assoc, add-comm, add-left-comm)
 
 -- a cell's bytes lie inside its row, and a row inside its plane
+pub spot-low : (m w a b t : ℕ) → b * (m * w) ≤ spot m w a b t
+unfolding spot
+spot-low m w a b t = omega arith
+
 pub spot-row : (m w a b t : ℕ) → a < m → t < w → spot m w a b t < b * (m * w) + m * w
 unfolding spot
 spot-row m w a b t l k = omega (arith, stretch-end a m w l)
@@ -75,11 +79,9 @@ pub planes-fill : (sh : Shape) → sh .l3 * planeBytes sh ≡ sh .w * cells sh
 unfolding cells
 planes-fill sh = planes-in-cube (sh .l1) (sh .l2) (sh .l3) (sh .w)
 
--- a plane that holds data lies inside the cube, and its data inside the data string
-pub plane-inside : (sh : Shape) (c : ℕ) → c < sh .l3 - 2 → c * planeBytes sh + planeBytes sh ≤ sh .w * cells sh
-plane-inside sh c l =
-    let less : c < sh .l3 = omega arith in
-    omega (arith, stretch-end c (sh .l3) (planeBytes sh) less, planes-fill sh)
+-- a plane lies inside the cube, and the data of one that holds data inside the data string
+pub plane-inside : (sh : Shape) (c : ℕ) → c < sh .l3 → c * planeBytes sh + planeBytes sh ≤ sh .w * cells sh
+plane-inside sh c l = omega (arith, stretch-end c (sh .l3) (planeBytes sh) l, planes-fill sh)
 
 pub data-plane-inside : (sh : Shape) (c : ℕ) → c < sh .l3 - 2 → c * partBytes sh + partBytes sh ≤ capacity sh
 unfolding capacity

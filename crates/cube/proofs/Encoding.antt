@@ -1,62 +1,132 @@
--- A cube is coded by its data planes, then the parity of axis 3 on all their bytes.
-use mathlib.Core.Path.{_≡_, sym, ap, _∙_}
+-- A cube is coded by the parity of axis 3 on its data rows, then every plane. Axis 3 is right on the data cells of each plane, so it is
+-- right on the data columns, whose lines of axis 2 are right in every plane, and so on every row.
+use mathlib.Core.Path.{_≡_, refl, sym, ap, _∙_}
 use mathlib.Core.List.{List}
 use Prim.Native.Nat.{ℕ, _+_, _*_, _-_, _<_}
 use native.Mathlib.Omega.{arith}
+use native.Mathlib.Decide.{ℕ-discrete}
 use lib.ListN.{length, getD}
 use Rattle.field.specs.Field.{Primitive}
-use Rattle.line.specs.Line.{Codeword, completed}
-use Rattle.line.specs.Run.{Solved}
+use Rattle.line.specs.declared.Run.{Run}
+use Rattle.line.specs.Line.{Codeword}
+use Rattle.line.specs.Run.{Inside, Feeds, Encoded}
 use Rattle.line.proofs.Codeword.{codeword-cong}
 use Rattle.cube.specs.declared.Shape.{Shape}
-use Rattle.cube.specs.Shapes.{Valid, cells, IsLine, axis1, axis2, axis3}
+use Rattle.cube.specs.Shapes.{Valid, cells, capacity, IsLine, axis1, axis2, axis3}
 use Rattle.cube.specs.Cube.{layer, layerLine, CodeCube}
-use Rattle.cube.specs.Plane.{spot, planeBytes, PlanesCoded, PlanesHeld}
+use Rattle.cube.specs.Plane.{spot, planeBytes, RowsEncoded, PlanesCoded, PlanesHeld}
 use Rattle.cube.proofs.Geometry.{axis1-cell, axis2-cell, axis3-cell}
-use Rattle.cube.proofs.Bytes.{spot-plane}
-use Rattle.cube.proofs.Completing.{sideRun, side-lines}
-use Rattle.cube.proofs.Parity.{parity-line, parity-kept, parity-across}
+use Rattle.cube.proofs.Bytes.{stretch-end, planes-in-cube, planes-fill}
+use Rattle.cube.proofs.Completing.{acrossRun, across-inside, across-byte, across-off}
+use Rattle.cube.proofs.Parity.{crossing}
 use Rattle.cube.proofs.DataString.{layer-byte}
 
-module _ (r : ℕ) (prim : Primitive r) (sh : Shape) (v : Valid sh) (ds before after : List ℕ)
-    (coded : PlanesCoded r sh (sh .l3 - 2) ds before)
-    (solved : Solved r (sideRun (planeBytes sh) (sh .l3)) (sh .l3 - 2) (sh .l3 - 1) before after) where
-  planes-done : (c u : ℕ) → c < sh .l3 → u < planeBytes sh
-      → getD after (c * planeBytes sh + u) 0
-      ≡ completed r (sh .l3) (sh .l3 - 2) (sh .l3 - 1) (λ q. getD before (q * planeBytes sh + u) 0) c
-  planes-done c u l k = side-lines r _ _ _ _ before after (omega arith) solved c u k
+-- ---- the data rows
 
-  -- a line inside each plane, through the bytes u 0, u 1, ..: where it is a codeword in the data planes, it is one in all
-  planes-across : (m : ℕ) (u : ℕ → ℕ) → ((i : ℕ) → i < m → u i < planeBytes sh)
-      → ((c : ℕ) → c < sh .l3 - 2 → Codeword r (λ i. getD before (c * planeBytes sh + u i) 0) m)
-      → (c : ℕ) → c < sh .l3 → Codeword r (λ i. getD after (c * planeBytes sh + u i) 0) m
-  planes-across m u inside h c l =
-      parity-across r prim (sh .l3) m (omega arith) (v .l3-high) _ _ (λ q i k n. planes-done q (u i) k (inside i n)) h c l
+-- row b of each plane: its data cells in the data string, and in the cube
+unfoldable pub rowsFrom : Shape → ℕ → Run
+rowsFrom sh b = acrossRun (sh .l1 - 2) (sh .l2 - 2) (sh .l3 - 2) (sh .w) (sh .l1 - 2) b
+
+unfoldable pub rowsTo : Shape → ℕ → Run
+rowsTo sh b = acrossRun (sh .l1) (sh .l2) (sh .l3) (sh .w) (sh .l1 - 2) b
+
+pub rows-to-inside : (sh : Shape) (n : ℕ) → Valid sh → n < sh .l2 - 2 → Inside (rowsTo sh n) (sh .w * cells sh)
+unfolding rowsTo
+rows-to-inside sh n v less =
+    across-inside (sh .l1) (sh .l2) (sh .l3) (sh .w) (sh .l1 - 2) n _ (omega arith) (v .l3-high) (omega arith) (omega arith)
+    (omega (arith, planes-fill sh))
+
+pub rows-fed : (sh : Shape) (n : ℕ) → Valid sh → n < sh .l2 - 2 → Feeds (rowsFrom sh n) (rowsTo sh n) (capacity sh)
+unfolding rowsFrom rowsTo acrossRun capacity
+rows-fed sh n v less =
+    record {
+      inside =
+          across-inside (sh .l1 - 2) (sh .l2 - 2) (sh .l3 - 2) (sh .w) (sh .l1 - 2) n _ (omega arith) (omega arith) (omega arith) less
+          (omega (arith, planes-in-cube (sh .l1 - 2) (sh .l2 - 2) (sh .l3 - 2) (sh .w)));
+      places = omega arith;
+      lines = refl;
+    }
+
+pub rows-encoded-none : (r : ℕ) (sh : Shape) (ds xs : List ℕ) → RowsEncoded r sh 0 ds xs
+rows-encoded-none r sh ds xs = record { lines = λ a b t l k h. absurd (omega arith); holds = λ a b c t l k m h. absurd (omega arith) }
+
+-- one more row
+module _ (r : ℕ) (sh : Shape) (n : ℕ) (ds before after : List ℕ) (less : n < sh .l2 - 2) (encoded : Encoded r (rowsFrom sh n) (rowsTo sh n) ds before after) where
+  new-line : (a t : ℕ) → a < sh .l1 - 2 → t < sh .w
+      → Codeword r (λ c. getD after (c * planeBytes sh + spot (sh .l1) (sh .w) a n t) 0) (sh .l3)
+  unfolding rowsTo acrossRun
+  new-line a t l h =
+      codeword-cong r _ _ (sh .l3) (λ c m. across-byte (sh .l1) (sh .l2) (sh .l3) (sh .w) (sh .l1 - 2) n after a t c)
+      (encoded .codewords (a * sh .w + t) (omega (arith, stretch-end a (sh .l1 - 2) (sh .w) l)))
+
+  new-data : (a c t : ℕ) → a < sh .l1 - 2 → c < sh .l3 - 2 → t < sh .w
+      → getD ds (c * ((sh .l1 - 2) * (sh .l2 - 2) * sh .w) + spot (sh .l1 - 2) (sh .w) a n t) 0 ≡ getD after (c * planeBytes sh + spot (sh .l1) (sh .w) a n t) 0
+  unfolding rowsFrom rowsTo acrossRun
+  new-data a c t l m h =
+      sym (across-byte (sh .l1 - 2) (sh .l2 - 2) (sh .l3 - 2) (sh .w) (sh .l1 - 2) n ds a t c)
+      ∙ sym (encoded .placed (a * sh .w + t) (omega (arith, stretch-end a (sh .l1 - 2) (sh .w) l)) c m)
+      ∙ across-byte (sh .l1) (sh .l2) (sh .l3) (sh .w) (sh .l1 - 2) n after a t c
+
+  old-kept : (a b c t : ℕ) → a < sh .l1 - 2 → b < n → t < sh .w
+      → getD after (c * planeBytes sh + spot (sh .l1) (sh .w) a b t) 0 ≡ getD before (c * planeBytes sh + spot (sh .l1) (sh .w) a b t) 0
+  unfolding rowsTo
+  old-kept a b c t l k h =
+      encoded .kept _
+      (λ i m.
+      across-off (sh .l1) (sh .l2) (sh .l3) (sh .w) (sh .l1 - 2) n (omega arith) (omega arith) a b c t (omega arith) (omega arith) h (omega arith) i)
+
+  pub rows-encoded-more : RowsEncoded r sh n ds before → RowsEncoded r sh (n + 1) ds after
+  rows-encoded-more done =
+      record {
+        lines = λ a b t l k h. elim (ℕ-discrete b n) [
+          | yes e ↦ rw e (new-line a t l h)
+          | no ne ↦ let earlier : b < n = omega arith in
+              codeword-cong r _ _ (sh .l3) (λ c m. sym (old-kept a b c t l earlier h)) (done .lines a b t l earlier h)
+        ];
+        holds = λ a b c t l k m h. elim (ℕ-discrete b n) [
+          | yes e ↦ rw e (new-data a c t l m h)
+          | no ne ↦ let earlier : b < n = omega arith in
+              done .holds a b c t l earlier m h ∙ sym (old-kept a b c t l earlier h)
+        ];
+      }
+
+-- ---- the cube
+
+module _ (r : ℕ) (prim : Primitive r) (sh : Shape) (v : Valid sh) (ds before after : List ℕ) (bytes : (p : ℕ) → getD after p 0 < 256)
+    (rows : RowsEncoded r sh (sh .l2 - 2) ds before) (planes : PlanesCoded r sh (sh .l3) before after) where
+  -- a line of axis 3 through data cells, through data columns, and through any cells
+  across-data : (a b t : ℕ) → a < sh .l1 - 2 → b < sh .l2 - 2 → t < sh .w
+      → Codeword r (λ c. getD after (c * planeBytes sh + spot (sh .l1) (sh .w) a b t) 0) (sh .l3)
+  across-data a b t l k h =
+      codeword-cong r _ _ (sh .l3) (λ c m. sym (planes .coded c m .kept a b t l k h)) (rows .lines a b t l k h)
+
+  across-columns : (a b t : ℕ) → a < sh .l1 - 2 → b < sh .l2 → t < sh .w
+      → Codeword r (λ c. getD after (c * planeBytes sh + spot (sh .l1) (sh .w) a b t) 0) (sh .l3)
+  across-columns a b t l k h =
+      crossing r (sh .l3) (sh .l2) (λ c q. getD after (c * planeBytes sh + spot (sh .l1) (sh .w) a q t) 0) prim (v .l2-high) (λ c q. bytes _)
+      (λ c m. planes .coded c m .columns a t (omega arith) h) (λ q m. across-data a q t l m h) b k
+
+  across : (a b t : ℕ) → a < sh .l1 → b < sh .l2 → t < sh .w
+      → Codeword r (λ c. getD after (c * planeBytes sh + spot (sh .l1) (sh .w) a b t) 0) (sh .l3)
+  across a b t l k h =
+      crossing r (sh .l3) (sh .l1) (λ c q. getD after (c * planeBytes sh + spot (sh .l1) (sh .w) q b t) 0) prim (v .l1-high) (λ c q. bytes _)
+      (λ c m. planes .coded c m .rows b t k h) (λ q m. across-columns q b t m k h) a l
 
   line-codeword : (first stride len : ℕ) → IsLine sh first stride len → (t : ℕ) → t < sh .w → Codeword r (layerLine sh after t first stride) len
   unfolding layerLine
   line-codeword _ _ _ (axis1 b c l k) t h =
       codeword-cong r _ _ (sh .l1) (λ a m. sym (ap (layer sh after t) (axis1-cell sh b c a) ∙ layer-byte sh after a b c t))
-      (planes-across (sh .l1) (λ a. spot (sh .l1) (sh .w) a b t) (λ a m. spot-plane (sh .l1) (sh .l2) (sh .w) a b t m l h)
-      (λ q m. coded .coded q m .rows b t l h) c k)
+      (planes .coded c k .rows b t l h)
   line-codeword _ _ _ (axis2 a c l k) t h =
       codeword-cong r _ _ (sh .l2) (λ b m. sym (ap (layer sh after t) (axis2-cell sh a c b) ∙ layer-byte sh after a b c t))
-      (planes-across (sh .l2) (λ b. spot (sh .l1) (sh .w) a b t) (λ b m. spot-plane (sh .l1) (sh .l2) (sh .w) a b t l m h)
-      (λ q m. coded .coded q m .columns a t l h) c k)
+      (planes .coded c k .columns a t l h)
   line-codeword _ _ _ (axis3 a b l k) t h =
       codeword-cong r _ _ (sh .l3) (λ c m. sym (ap (layer sh after t) (axis3-cell sh a b c) ∙ layer-byte sh after a b c t))
-      (parity-line r prim (sh .l3) (planeBytes sh) (omega arith) (v .l3-high) _ _ planes-done (spot (sh .l1) (sh .w) a b t)
-      (spot-plane (sh .l1) (sh .l2) (sh .w) a b t l k h))
+      (across a b t l k h)
 
   pub code-cube : length after ≡ sh .w * cells sh → CodeCube r sh after
   code-cube size = record { size = size; lines = line-codeword }
 
   pub data-held : PlanesHeld sh (sh .l3 - 2) after ds
   data-held =
-      record {
-        bytes = λ a b c t l k m h.
-            sym
-            (parity-kept r prim (sh .l3) (planeBytes sh) (omega arith) (v .l3-high) _ _ planes-done c (spot (sh .l1) (sh .w) a b t) m
-            (spot-plane (sh .l1) (sh .l2) (sh .w) a b t (omega arith) (omega arith) h)
-            ∙ coded .coded c m .holds a b t l k h);
-      }
+      record { bytes = λ a b c t l k m h. rows .holds a b c t l k m h ∙ sym (planes .coded c (omega arith) .kept a b t l k h) }

@@ -5,7 +5,7 @@ use Prim.Native.Nat.{ℕ, _+_, _-_, _≤_, _<_}
 use native.Mathlib.Omega.{arith}
 use lib.ListN.{length, getD, take, drop, length-take, length-drop, List·getD-append}
 use lib.Seq.{length-take-le, getD-take, getD-drop, getD-append-add}
-use borrow.Rule.Slice.PartMut.{midOf, postOf, putMid}
+use borrow.Rule.Slice.PartMut.{midOf, postOf, putMid, drop-put}
 
 -- the n bytes from a on, and the list with ys in their place
 abbrev pub lent : ℕ → ℕ → List ℕ → List ℕ
@@ -31,3 +31,12 @@ module _ (a n : ℕ) (xs ys : List ℕ) (room : a ≤ length xs) where
   returned-below p l =
       let inside : p < length (take a xs) = omega (arith, length-take-le a xs room) in
       List·getD-append (take a xs) (ys ++ postOf a (a + n - a) xs) 0 p inside ∙ getD-take a xs p 0 l
+
+pub returned-above : (a n : ℕ) (xs ys : List ℕ) → a + n ≤ length xs → length ys ≡ n → (p : ℕ) → a + n ≤ p
+    → getD (returned a n xs ys) p 0 ≡ getD xs p 0
+returned-above a n xs ys room size p l =
+    let at : a + n + (p - (a + n)) ≡ p = omega arith in
+    rw (← at)
+    (sym (getD-drop (a + n) (returned a n xs ys) (p - (a + n)) 0)
+    ∙ ap (λ (zs : List ℕ). getD zs (p - (a + n)) 0) (drop-put a (a + n) xs ys (omega arith) room (omega arith))
+    ∙ getD-drop (a + n) xs (p - (a + n)) 0)

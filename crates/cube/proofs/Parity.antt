@@ -1,23 +1,28 @@
--- Parity: lines of length n, side by side, completed at their two last places. Place i of line p is x i p before and y i p after.
--- Each line is a codeword then, and where the x i that hold data are codewords, so is every y i: parity of parity agrees.
-use mathlib.Core.Path.{_≡_, sym, _∙_}
+-- Parity of parity agrees. Place a of row i is x i a; where every row is a codeword, and so is every column through a data place, then
+-- every column is one: each syndrome of the columns, place by place, is a codeword whose data places are 00h, so it is 00h.
+use mathlib.Core.Path.{_≡_}
 use Prim.Native.Nat.{ℕ, _-_, _≤_, _<_}
 use native.Mathlib.Omega.{arith}
 use Rattle.field.specs.Field.{Primitive}
-use Rattle.line.specs.Line.{Codeword, completed}
-use Rattle.line.proofs.Codeword.{codeword-cong}
-use Rattle.line.proofs.Erasure.{completed-off, completed-codeword, completed-rows}
+use Rattle.line.specs.Line.{Codeword, syndrome0, syndrome1}
+use Rattle.line.proofs.Syndrome.{syndrome0-lt, syndrome1-lt}
+use Rattle.line.proofs.Codeword.{codeword-sum0, codeword-sum1, weight}
 
-module _ (r : ℕ) (prim : Primitive r) (n m : ℕ) (low : 2 ≤ n) (high : n ≤ 255) (x y : ℕ → ℕ → ℕ)
-    (done : (i p : ℕ) → i < n → p < m → y i p ≡ completed r n (n - 2) (n - 1) (λ q. x q p) i) where
-  pub parity-line : (p : ℕ) → p < m → Codeword r (λ i. y i p) n
-  parity-line p l =
-      codeword-cong r _ _ n (λ i k. sym (done i p k l)) (completed-codeword r n (n - 2) (n - 1) (λ q. x q p) prim high (omega arith) (omega arith))
+-- a codeword whose data places are 00h is 00h
+data-zero : (r m : ℕ) (c : ℕ → ℕ) → Primitive r → m ≤ 255 → ((a : ℕ) → c a < 256) → Codeword r c m → ((a : ℕ) → a < m - 2 → c a ≡ 0)
+    → (a : ℕ) → a < m → c a ≡ 0
+data-zero r m c prim few bytes w zeros =
+    weight r c m (m - 2) (m - 1) prim few (λ a l. bytes a) w (λ a l nj nk. zeros a (omega arith))
 
-  pub parity-kept : (i p : ℕ) → i < n - 2 → p < m → y i p ≡ x i p
-  parity-kept i p k l = done i p (omega arith) l ∙ completed-off r n (n - 2) (n - 1) (λ q. x q p) i (omega arith) (omega arith)
-
-  pub parity-across : ((i : ℕ) → i < n - 2 → Codeword r (x i) m) → (i : ℕ) → i < n → Codeword r (y i) m
-  parity-across h i k =
-      codeword-cong r _ _ m (λ p l. sym (done i p k l))
-      (completed-rows r x n m (n - 2) (n - 1) (prim .fits) (λ q l nj nk. h q (omega arith)) i k)
+pub crossing : (r n m : ℕ) (x : ℕ → ℕ → ℕ) → Primitive r → m ≤ 255 → ((i a : ℕ) → x i a < 256)
+    → ((i : ℕ) → i < n → Codeword r (x i) m) → ((a : ℕ) → a < m - 2 → Codeword r (λ i. x i a) n)
+    → (a : ℕ) → a < m → Codeword r (λ i. x i a) n
+crossing r n m x prim few bytes rows columns a l =
+    record {
+      first =
+          data-zero r m (λ q. syndrome0 (λ i. x i q) n) prim few (λ q. syndrome0-lt _ n (λ i k. bytes i q))
+          (codeword-sum0 r x n m rows) (λ q k. columns q k .first) a l;
+      second =
+          data-zero r m (λ q. syndrome1 r (λ i. x i q) n) prim few (λ q. syndrome1-lt r _ n (prim .fits))
+          (codeword-sum1 r x n m (prim .fits) rows) (λ q k. columns q k .second) a l;
+    }

@@ -1,105 +1,102 @@
--- A plane is coded by its data rows with their parity of axis 1, then the parity of axis 2 on every column.
+-- A plane is coded by the parity of axis 2 on its data columns, then that of axis 1 on every row.
 use mathlib.Core.Path.{_≡_, refl, sym, _∙_}
 use mathlib.Core.List.{List}
 use Prim.Native.Nat.{ℕ, _+_, _*_, _-_, _≤_, _<_}
+use native.Mathlib.Nat.{suc-mul}
 use native.Mathlib.Omega.{arith}
 use native.Mathlib.Decide.{ℕ-discrete}
 use lib.ListN.{length, getD}
 use Rattle.field.specs.Field.{Primitive}
-use Rattle.line.specs.Line.{Codeword, completed}
-use Rattle.line.specs.Run.{Solved}
+use Rattle.line.specs.Line.{Codeword}
+use Rattle.line.specs.Run.{Inside, Solved}
 use Rattle.line.proofs.Codeword.{codeword-cong}
 use Rattle.cube.specs.declared.Shape.{Shape}
 use Rattle.cube.specs.Shapes.{Valid}
-use Rattle.cube.specs.Plane.{Copied, spot, RowsCoded, PlaneCode, planeBytes, partBytes, PlanesCoded}
-use Rattle.cube.proofs.Bytes.{stretch-end, spot-row, spot-plane}
-use Rattle.cube.proofs.Lending.{lent, returned, lent-at, returned-at, returned-below}
-use Rattle.cube.proofs.Completing.{rowRun, row-lines, row-below, sideRun, side-lines}
-use Rattle.cube.proofs.Parity.{parity-line, parity-kept, parity-across}
+use Rattle.cube.specs.Plane.{spot, RowsCompleted, PlaneCode, planeBytes, PlanesCoded}
+use Rattle.cube.proofs.Bytes.{stretch-end, spot-plane}
+use Rattle.cube.proofs.Lending.{lent, returned, lent-at, returned-at, returned-below, returned-above}
+use Rattle.cube.proofs.Completing.{rowRun, row-codeword, row-data, row-other, columnsRun, column-codeword, column-data}
+use Rattle.cube.proofs.Parity.{crossing}
 
-pub rows-coded-none : (r m w : ℕ) (ds xs : List ℕ) → RowsCoded r m w 0 ds xs
-rows-coded-none r m w ds xs = record { lines = λ b t l h. absurd (omega arith); holds = λ a b t l k h. absurd (omega arith) }
+-- ---- rows
 
--- one more row, copied and completed
-module _ (r : ℕ) (prim : Primitive r) (m w n : ℕ) (low : 2 ≤ m) (high : m ≤ 255) (ds before placed after : List ℕ)
-    (done : RowsCoded r m w n ds before) (copy : Copied ds before placed (n * ((m - 2) * w)) (n * (m * w)) ((m - 2) * w))
-    (solved : Solved r (rowRun m w n) (m - 2) (m - 1) placed after) where
-  new-line : (t : ℕ) → t < w → Codeword r (λ a. getD after (spot m w a n t) 0) m
-  new-line t h = parity-line r prim m w low high _ _ (row-lines r m w n placed after solved) t h
+pub rows-completed-none : (r m w : ℕ) (xs : List ℕ) → RowsCompleted r m w 0 xs xs
+rows-completed-none r m w xs = record { lines = λ b t l h. absurd (omega arith); kept = λ a b t l h. refl }
 
-  new-data : (a t : ℕ) → a < m - 2 → t < w → getD after (spot m w a n t) 0 ≡ getD ds (spot (m - 2) w a n t) 0
-  unfolding spot
-  new-data a t l h =
-      parity-kept r prim m w low high _ _ (row-lines r m w n placed after solved) a t l h
-      ∙ copy .copied (a * w + t) (omega (arith, stretch-end a (m - 2) w l))
+-- one more row
+pub rows-completed-more : (r m w n : ℕ) (start before after : List ℕ) → Primitive r → 2 ≤ m → RowsCompleted r m w n start before
+    → Inside (rowRun m w n) (length before) → Solved r (rowRun m w n) (m - 2) (m - 1) before after → RowsCompleted r m w (n + 1) start after
+rows-completed-more r m w n start before after prim low done inside solved =
+    record {
+      lines = λ b t k h. elim (ℕ-discrete b n) [
+        | yes e ↦ rw e (row-codeword r m w n before after inside solved prim low t h)
+        | no ne ↦
+            codeword-cong r _ _ m (λ a l. sym (row-other r m w n before after inside solved low a b t l h ne)) (done .lines b t (omega arith) h)
+      ];
+      kept = λ a b t l h. elim (ℕ-discrete b n) [
+        | yes e ↦ rw e (row-data r m w n before after inside solved a t l h ∙ done .kept a n t l h)
+        | no ne ↦ row-other r m w n before after inside solved low a b t (omega arith) h ne ∙ done .kept a b t l h
+      ];
+    }
 
-  old-kept : (a b t : ℕ) → a < m → b < n → t < w → getD after (spot m w a b t) 0 ≡ getD before (spot m w a b t) 0
-  old-kept a b t l k h =
-      let less : spot m w a b t < n * (m * w) = omega (arith, spot-row m w a b t l h, stretch-end b n (m * w) k) in
-      row-below r m w n placed after solved _ less ∙ copy .below _ less
+-- ---- a plane
 
-  pub rows-coded-more : RowsCoded r m w (n + 1) ds after
-  rows-coded-more =
-      record {
-        lines = λ b t k h. elim (ℕ-discrete b n) [
-          | yes e ↦ rw e (new-line t h)
-          | no ne ↦ let less : b < n = omega arith in
-              codeword-cong r _ _ m (λ a l. sym (old-kept a b t l less h)) (done .lines b t less h)
-        ];
-        holds = λ a b t l k h. elim (ℕ-discrete b n) [
-          | yes e ↦ rw e (new-data a t l h)
-          | no ne ↦ let less : b < n = omega arith in
-              old-kept a b t (omega arith) less h ∙ done .holds a b t l less h
-        ];
-      }
+module _ (r : ℕ) (prim : Primitive r) (sh : Shape) (v : Valid sh) (before middle after : List ℕ) (bytes : (p : ℕ) → getD after p 0 < 256)
+    (inside : Inside (columnsRun (sh .l1) (sh .l2) (sh .w)) (length before))
+    (solved : Solved r (columnsRun (sh .l1) (sh .l2) (sh .w)) (sh .l2 - 2) (sh .l2 - 1) before middle)
+    (completed : RowsCompleted r (sh .l1) (sh .w) (sh .l2) middle after) where
+  data-column : (a t : ℕ) → a < sh .l1 - 2 → t < sh .w → Codeword r (λ b. getD after (spot (sh .l1) (sh .w) a b t) 0) (sh .l2)
+  data-column a t l h =
+      codeword-cong r _ _ (sh .l2) (λ b k. sym (completed .kept a b t l h))
+      (column-codeword r (sh .l1) (sh .l2) (sh .w) before middle inside solved prim (omega arith) a t l h)
 
-module _ (r : ℕ) (prim : Primitive r) (sh : Shape) (v : Valid sh) (ds before after : List ℕ)
-    (coded : RowsCoded r (sh .l1) (sh .w) (sh .l2 - 2) ds before)
-    (solved : Solved r (sideRun (sh .l1 * sh .w) (sh .l2)) (sh .l2 - 2) (sh .l2 - 1) before after) where
-  columns-done : (t : ℕ) → t < sh .w → (b a : ℕ) → b < sh .l2 → a < sh .l1
-      → getD after (spot (sh .l1) (sh .w) a b t) 0
-      ≡ completed r (sh .l2) (sh .l2 - 2) (sh .l2 - 1) (λ q. getD before (spot (sh .l1) (sh .w) a q t) 0) b
-  unfolding spot
-  columns-done t h b a l k =
-      side-lines r _ _ _ _ before after (omega arith) solved b (a * sh .w + t) (omega (arith, stretch-end a (sh .l1) (sh .w) k))
-
-  pub plane-code : PlaneCode r sh (λ p. getD ds p 0) (λ p. getD after p 0)
+  pub plane-code : PlaneCode r sh (λ p. getD before p 0) (λ p. getD after p 0)
   plane-code =
       record {
-        rows = λ b t l h. parity-across r prim (sh .l2) (sh .l1) (omega arith) (v .l2-high) _ _ (columns-done t h) (λ i k. coded .lines i t k h) b l;
-        columns = λ a t l h. parity-line r prim (sh .l2) (sh .l1) (omega arith) (v .l2-high) _ _ (columns-done t h) a l;
-        holds = λ a b t l k h.
-            parity-kept r prim (sh .l2) (sh .l1) (omega arith) (v .l2-high) _ _ (columns-done t h) b a k (omega arith) ∙ coded .holds a b t l k h;
+        rows = completed .lines;
+        columns = λ a t l h.
+            crossing r (sh .l2) (sh .l1) (λ b q. getD after (spot (sh .l1) (sh .w) q b t) 0) prim (v .l1-high) (λ b q. bytes _)
+            (λ b k. completed .lines b t k h) (λ q k. data-column q t k h) a l;
+        kept = λ a b t l k h.
+            completed .kept a b t l h ∙ column-data r (sh .l1) (sh .l2) (sh .w) before middle inside solved a b t l k h;
       }
 
--- only the bytes of the plane and of its data count
-pub plane-cong : (r : ℕ) (sh : Shape) (d p e q : ℕ → ℕ) → ((i : ℕ) → i < partBytes sh → d i ≡ e i)
+-- only the bytes of the plane count
+plane-cong : (r : ℕ) (sh : Shape) (d p e q : ℕ → ℕ) → ((i : ℕ) → i < planeBytes sh → d i ≡ e i)
     → ((i : ℕ) → i < planeBytes sh → p i ≡ q i) → PlaneCode r sh d p → PlaneCode r sh e q
 plane-cong r sh d p e q same-data same h =
     record {
       rows = λ b t l k. codeword-cong r _ _ (sh .l1) (λ a m. same _ (spot-plane _ _ _ a b t m l k)) (h .rows b t l k);
       columns = λ a t l k. codeword-cong r _ _ (sh .l2) (λ b m. same _ (spot-plane _ _ _ a b t l m k)) (h .columns a t l k);
-      holds = λ a b t l k m.
-          sym (same _ (spot-plane _ _ _ a b t (omega arith) (omega arith) m)) ∙ h .holds a b t l k m ∙ same-data _ (spot-plane _ _ _ a b t l k m);
+      kept = λ a b t l k m.
+          let inside = spot-plane (sh .l1) (sh .l2) (sh .w) a b t (omega arith) (omega arith) m in
+          sym (same _ inside) ∙ h .kept a b t l k m ∙ same-data _ inside;
     }
 
-pub planes-coded-none : (r : ℕ) (sh : Shape) (ds xs : List ℕ) → PlanesCoded r sh 0 ds xs
-planes-coded-none r sh ds xs = record { coded = λ c l. absurd (omega arith) }
+-- ---- the planes of a cube
+
+pub planes-coded-none : (r : ℕ) (sh : Shape) (xs : List ℕ) → PlanesCoded r sh 0 xs xs
+planes-coded-none r sh xs = record { coded = λ c l. absurd (omega arith); rest = λ p l. refl }
 
 -- one more plane, coded as a part of the cube that is returned
-pub planes-coded-more : (r : ℕ) (sh : Shape) (n : ℕ) (ds xs ys : List ℕ) → n * planeBytes sh ≤ length xs → length ys ≡ planeBytes sh
-    → PlanesCoded r sh n ds xs → PlaneCode r sh (λ p. getD (lent (n * partBytes sh) (partBytes sh) ds) p 0) (λ p. getD ys p 0)
-    → PlanesCoded r sh (n + 1) ds (returned (n * planeBytes sh) (planeBytes sh) xs ys)
-planes-coded-more r sh n ds xs ys room size done h =
+pub planes-coded-more : (r : ℕ) (sh : Shape) (n : ℕ) (start xs ys : List ℕ) → n * planeBytes sh + planeBytes sh ≤ length xs
+    → length ys ≡ planeBytes sh → PlanesCoded r sh n start xs
+    → PlaneCode r sh (λ p. getD (lent (n * planeBytes sh) (planeBytes sh) xs) p 0) (λ p. getD ys p 0)
+    → PlanesCoded r sh (n + 1) start (returned (n * planeBytes sh) (planeBytes sh) xs ys)
+planes-coded-more r sh n start xs ys room size done h =
+    let begins : n * planeBytes sh ≤ length xs = omega arith in
     record {
       coded = λ c l. elim (ℕ-discrete c n) [
         | yes e ↦
             rw e
-            (plane-cong r sh _ _ _ _ (λ i m. lent-at _ _ ds i m)
-            (λ i m. sym (returned-at (n * planeBytes sh) (planeBytes sh) xs ys room i (omega arith))) h)
+            (plane-cong r sh _ _ _ _ (λ i m. lent-at _ _ xs i m ∙ done .rest _ (omega arith))
+            (λ i m. sym (returned-at (n * planeBytes sh) (planeBytes sh) xs ys begins i (omega arith))) h)
         | no ne ↦ let less : c < n = omega arith in
             plane-cong r sh _ _ _ _ (λ i m. refl)
-            (λ i m. sym (returned-below (n * planeBytes sh) (planeBytes sh) xs ys room _ (omega (arith, stretch-end c n (planeBytes sh) less))))
+            (λ i m. sym (returned-below (n * planeBytes sh) (planeBytes sh) xs ys begins _ (omega (arith, stretch-end c n (planeBytes sh) less))))
             (done .coded c less)
       ];
+      rest = λ p l.
+          let past : n * planeBytes sh + planeBytes sh ≤ p = omega (arith, suc-mul n (planeBytes sh)) in
+          returned-above (n * planeBytes sh) (planeBytes sh) xs ys room size p past ∙ done .rest p (omega arith);
     }

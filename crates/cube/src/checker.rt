@@ -21,7 +21,7 @@ pub(crate) fn all_right(cube: &[u8], sh: Shape) -> bool
     lines_right(cube, sh, 3, 0, sh.l1 * sh.l2)
 }
 
-// Axes 1 and 2, plane by plane while a plane is in the cache.
+// Axes 2 and 1, plane by plane while a plane is in the cache. Axis 2 comes first: its runs are long, and fetch the plane at full speed.
 fn planes_right(cube: &[u8], sh: Shape) -> bool
     requires { ⌜ Valid sh × (length (now cube) ≡ sh .w * cells sh) ⌝ }
     ensures { λ r. ⌜ Decides (LinesRight reduction sh 1 0 (linesOf sh 1) (now (cube .entry)) × LinesRight reduction sh 2 0 (linesOf sh 2) (now (cube .entry))) r ⌝ }
@@ -33,10 +33,10 @@ fn planes_right(cube: &[u8], sh: Shape) -> bool
     while c < l3 {
         let row = c * l2;
         let column = c * l1;
-        if !lines_right(cube, sh, 1, row, row + l2) {
+        if !lines_right(cube, sh, 2, column, column + l1) {
             return false;
         }
-        if !lines_right(cube, sh, 2, column, column + l1) {
+        if !lines_right(cube, sh, 1, row, row + l2) {
             return false;
         }
         c += 1;

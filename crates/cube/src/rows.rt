@@ -23,7 +23,7 @@ pub(crate) fn copy_rows(
 }
 
 // Copies n bytes of src from `from` on to dst from `to` on.
-pub(crate) fn copy(src: &[u8], dst: &mut [u8], from: usize, to: usize, n: usize)
+fn copy(src: &[u8], dst: &mut [u8], from: usize, to: usize, n: usize)
     requires { ⌜ (from + n ≤ length (now src)) × (to + n ≤ length (now dst)) ⌝ }
     ensures { λ r. ⌜ Copied (now (src .entry)) (now (dst .entry)) (now (dst .exit)) from to n ⌝ }
 {

@@ -73,7 +73,7 @@ fn fill_line(cube: &mut [u8], flags: &mut [u8], sh: Shape, line: Line) -> usize
         len: len,
         width: w,
     };
-    line::solve(cube, run, j, k);
+    line::solve(cube, run, line::erasures_at(j as u8, k as u8));
     flags[first + stride * j] = 3;
     flags[first + stride * k] = 3;
     count

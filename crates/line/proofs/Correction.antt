@@ -12,10 +12,10 @@ use Rattle.field.specs.Field.{add, xtime, mul, pow, Primitive}
 use Rattle.field.proofs.Multiplication.{mul-one-l, xtime-mul-l}
 use Rattle.field.proofs.Power.{pow-zero, pow-suc}
 use Rattle.line.specs.declared.Run.{Run}
-use Rattle.line.specs.Line.{syndrome0, syndrome1, ErrorAt, corrected}
+use Rattle.line.specs.Line.{syndrome0, syndrome1, Codeword, ErrorAt, corrected}
 use Rattle.line.specs.Run.{Inside, Off, lineAt, Corrected}
-use Rattle.line.specs.Block.{part, Syndromes, AllZero}
-use Rattle.line.proofs.Error.{corrected-first-zero, corrected-at, corrected-none, corrected-off}
+use Rattle.line.specs.Block.{part}
+use Rattle.line.proofs.Error.{corrected-codeword-same, corrected-at, corrected-none, corrected-off}
 use Rattle.line.proofs.Geometry.{stride-below}
 use Rattle.line.proofs.Parts.{Changed, line-part}
 
@@ -46,14 +46,15 @@ module _ {r : ℕ} {run : Run} {before after : List ℕ} where
   unfolding Below Mended
   changed-corrected c = record { size = c .size; kept = c .kept; lines = c .lines }
 
--- lines whose syndromes are 0
-pub corrected-zeros :
-    {r : ℕ} {run : Run} {s s0 s1 : List ℕ} → Syndromes r run s s0 s1 → AllZero (run .width) s0 s1 → Corrected r run s s
-corrected-zeros sy z =
+-- codewords stay as they are
+pub corrected-codewords :
+    {r : ℕ} {run : Run} {s : List ℕ} → ((t : ℕ) → t < run .width → Codeword r (lineAt s run t) (run .len)) →
+    Corrected r run s s
+corrected-codewords {r} {run} {s} w =
     record {
       size = refl;
       kept = λ p o. refl;
-      lines = λ t h i l. sym (corrected-first-zero _ _ _ i (sym (sy .first t h) ∙ z .first t h));
+      lines = λ t h i l. sym (corrected-codeword-same r (run .len) (lineAt s run t) (w t h) i);
     }
 
 -- ---- one line

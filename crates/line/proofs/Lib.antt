@@ -9,8 +9,8 @@ pub mod Geometry
 pub mod Runs
 pub mod Error
 -- Then what the functions' proofs share. Decision and Outcome: answers. Updated and Strips: lists written byte by byte. Tails: Horner's
--- rule for lines side by side. Zeros: all syndromes 0. Rows: the inverted array. Parts: a run block by block. Solving and Correction:
--- a block's erasures and errors.
+-- rule for lines side by side. Zeros: all syndromes 0. Rows: the inverted array. Parts: a run block by block. Solving, Correction and
+-- Encoding: a block's erasures, its errors, its codewords.
 mod Decision
 mod Outcome
 mod Updated
@@ -21,3 +21,4 @@ mod Rows
 mod Parts
 mod Solving
 mod Correction
+mod Encoding

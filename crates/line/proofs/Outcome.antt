@@ -4,31 +4,33 @@ use mathlib.Core.Bool.{Bool, true, false, false≢true, true≢false}
 use mathlib.Core.List.{List}
 use Prim.Native.Nat.{ℕ, _≤_, _<_}
 use lib.ListN.{length}
+use Rattle.line.specs.declared.Erasures.{Erasures}
 use Rattle.line.specs.declared.Place.{Place}
 use Rattle.line.specs.declared.Run.{Run}
 use Rattle.line.specs.Line.{Codeword}
-use Rattle.line.specs.Run.{Inside, lineAt, Solved, SolveOutcome, CodewordsOutcome, Corrected, CorrectOutcome, PlaceOutcome}
+use Rattle.line.specs.Run.{Inside, lineAt, Written, SolveOutcome, CodewordsOutcome, Corrected, CorrectOutcome, PlaceOutcome}
 use Rattle.line.specs.Block.{Decides}
 
 module _ {r : ℕ} {run : Run} where
   pub solve-refused :
-      (j k : ℕ) (l : List ℕ) → (Inside run (length l) → j ≤ k → k < run .len → ⊥) → SolveOutcome r run j k l l false
-  solve-refused j k l never =
+      (e : Erasures) (l : List ℕ) → (Inside run (length l) → e .j ≤ e .k → e .k < run .len → ⊥) →
+      SolveOutcome r run e l l false
+  solve-refused e l never =
       record {
         yes-when = λ h a b. absurd (never h a b);
-        yes-then = λ e. absurd (false≢true e);
-        written = λ e. absurd (false≢true e);
-        kept-else = λ e. refl;
+        yes-then = λ y. absurd (false≢true y);
+        written = λ y. absurd (false≢true y);
+        kept-else = λ y. refl;
       }
 
   pub solve-done :
-      {q j k : ℕ} {before after : List ℕ} → q ≡ r → Solved q run j k before after → Inside run (length before) → j ≤ k →
-      k < run .len → SolveOutcome r run j k before after true
-  solve-done {q} {j} {k} {before} {after} e s h a b =
+      {q : ℕ} {e : Erasures} {before after : List ℕ} → q ≡ r → Written q run e before after →
+      Inside run (length before) → e .j ≤ e .k → e .k < run .len → SolveOutcome r run e before after true
+  solve-done {q} {e} {before} {after} eq s h a b =
       record {
         yes-when = λ h' a' b'. refl;
         yes-then = λ y. (h, a, b);
-        written = λ y. subst (λ (x : ℕ). Solved x run j k before after) e s;
+        written = λ y. subst (λ (x : ℕ). Written x run e before after) eq s;
         kept-else = λ y. absurd (true≢false y);
       }
 

@@ -1,14 +1,17 @@
 -- The second row of the inverted array [1, 1; α^j, α^k].
-use mathlib.Core.Path.{_≡_, ap₂, _∙_}
+use mathlib.Core.Path.{_≡_, ap, ap₂, _∙_}
 use mathlib.Core.List.{List, [], _∷_}
 use mathlib.Core.Logic.{_≢_}
 use Prim.Native.Nat.{ℕ, _<_}
+use lib.ListN.{getD}
 use borrow.Author.Tests.{eq-eqb, ne-eqb}
 use Rattle.field.specs.Field.{add, mul, pow, inverse}
 use Rattle.field.proofs.Addition.{add-comm}
 use Rattle.field.proofs.Multiplication.{mul-one-l, mul-one-r}
 use Rattle.field.proofs.Power.{pow-lt, inverse-lt}
+use Rattle.line.specs.declared.Erasures.{Erasures}
 use Rattle.line.specs.Line.{row0, row1, pick}
+use Rattle.line.specs.Run.{erasuresAt}
 
 pub rows-same : (r j k : ℕ) → j ≡ k → _≡_ {A = List ℕ} (1 ∷ 0 ∷ []) (row0 r j k ∷ row1 r j k ∷ [])
 unfolding row0 row1 pick
@@ -30,3 +33,13 @@ module _ (r : ℕ) (fits : r < 256) (j k : ℕ) where
       j ≢ k → mul r (inverse r (add (mul r 1 (pow r k)) (mul r 1 (pow r j)))) 1 ≡ row1 r j k
   unfolding row1 pick
   row1-other ne = rw (ne-eqb j k ne, determinant) (mul-one-r r _ (inverse-lt r _ fits))
+
+-- two erasures with a row that is the array's
+from-row : ℕ → ℕ → List ℕ → Erasures
+from-row j k row = record { j = j; k = k; b = getD row 0 0; d = getD row 1 0 }
+
+pub row-erasures :
+    (q r j k : ℕ) (row : List ℕ) → q ≡ r → row ≡ row0 q j k ∷ row1 q j k ∷ [] →
+    _≡_ {A = Erasures} (record { j = j; k = k; b = getD row 0 0; d = getD row 1 0 }) (erasuresAt r j k)
+unfolding erasuresAt from-row
+row-erasures q r j k row e h = ap (from-row j k) h ∙ ap (λ (x : ℕ). erasuresAt x j k) e

@@ -8,13 +8,20 @@ use native.Mathlib.Omega.{arith}
 use lib.ListN.{length, getD}
 use Rattle.field.specs.Field.{add, Primitive}
 use Rattle.line.specs.declared.Run.{Run}
-use Rattle.line.specs.Line.{Codeword, syndrome0, erased, completed}
-use Rattle.line.specs.Run.{lineAt, Inside, Solved}
+use Rattle.line.specs.Line.{Codeword, syndrome0, erased, completed, solved}
+use Rattle.line.specs.Run.{lineAt, Inside, Solved, Written, erasuresAt}
 use Rattle.line.proofs.Codeword.{codeword-cong}
 use Rattle.line.proofs.Geometry.{off-of-ne, off-place}
 use Rattle.line.proofs.Erasure.{completed-later, completed-earlier, completed-off, completed-codeword, completed-forced}
 
 -- ---- what `Solved` says
+
+-- what the row of the inverted array writes
+pub written-solved :
+    {r : ℕ} {run : Run} {j k : ℕ} {before after : List ℕ} → Written r run (erasuresAt r j k) before after →
+    Solved r run j k before after
+unfolding erasuresAt solved
+written-solved w = record { size = w .size; kept = w .kept; later = w .later; earlier = w .earlier }
 
 -- a byte that stands at neither erasure is kept
 pub solved-kept : (r : ℕ) (run : Run) (j k : ℕ) (before after : List ℕ) → Solved r run j k before after → (p : ℕ)

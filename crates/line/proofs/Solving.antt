@@ -1,19 +1,19 @@
 -- Erasures of a run's lines: cleared, gathered into syndromes, written from them.
-use mathlib.Core.Path.{_≡_, refl, sym, ap, ap₂, fun-ext, _∙_}
+use mathlib.Core.Path.{_≡_, refl, sym, ap, ap₂, subst, fun-ext, _∙_}
 use mathlib.Core.List.{List}
 use mathlib.Core.Logic.{_⊎_, _≢_, inl, inr, ⊎-elim}
-use Prim.Native.Nat.{ℕ, _≤_, _<_}
+use Prim.Native.Nat.{ℕ, _+_, _*_, _≤_, _<_}
 use native.Mathlib.Decide.{ℕ-discrete}
 use native.Mathlib.Omega.{arith}
 use lib.ListN.{length, getD}
 use Rattle.field.specs.Field.{add, mul}
 use Rattle.line.specs.declared.Run.{Run}
-use Rattle.line.specs.declared.block.Erasures.{Erasures}
-use Rattle.line.specs.Line.{syndrome0, syndrome1, erased, solved, row0, row1}
-use Rattle.line.specs.Run.{lineAt, Inside, Off, Solved}
-use Rattle.line.specs.Block.{places, Syndromes, ToEnd, Cleared, Combined}
+use Rattle.line.specs.declared.Erasures.{Erasures}
+use Rattle.line.specs.Line.{syndrome0, syndrome1, erased}
+use Rattle.line.specs.Run.{lineAt, Inside, Off, Written}
+use Rattle.line.specs.Block.{places, ToEnd, Cleared, Combined, Combining, Stored}
 use Rattle.line.proofs.Erasure.{syndrome0-erased-end, syndrome1-erased-end}
-use Rattle.line.proofs.Geometry.{off-place}
+use Rattle.line.proofs.Geometry.{off-place, off-width, stride-below}
 use Rattle.line.proofs.Parts.{Changed}
 use Rattle.line.proofs.Pick.{pick-eq, pick-ne}
 
@@ -22,31 +22,59 @@ use Rattle.line.proofs.Pick.{pick-eq, pick-ne}
 unfoldable pub Erased : ℕ → ℕ → ℕ → ℕ → Type 0
 Erased j k n i = (i ≡ j) ⊎ (i ≡ k)
 
-pub record Filled (r j k n : ℕ) (c d : ℕ → ℕ) : Type 0 where
-  pub later : d k ≡ solved r j k (syndrome0 (erased j k c) n) (syndrome1 r (erased j k c) n)
-  pub earlier : j < k → d j ≡ add (syndrome0 (erased j k c) n) (d k)
+pub record Filled (r : ℕ) (e : Erasures) (n : ℕ) (c d : ℕ → ℕ) : Type 0 where
+  pub later :
+      d (e .k) ≡
+      add (mul r (syndrome0 (erased (e .j) (e .k) c) n) (e .b)) (mul r (syndrome1 r (erased (e .j) (e .k) c) n) (e .d))
+  pub earlier : e .j < e .k → d (e .j) ≡ add (syndrome0 (erased (e .j) (e .k) c) n) (d (e .k))
 
-module _ {r : ℕ} {run : Run} {j k : ℕ} {before after : List ℕ} where
-  pub solved-changed : Solved r run j k before after → Changed (Erased j k) (Filled r j k) run before after
+module _ {r : ℕ} {run : Run} {e : Erasures} {before after : List ℕ} where
+  pub written-changed : Written r run e before after → Changed (Erased (e .j) (e .k)) (Filled r e) run before after
   unfolding Erased
-  solved-changed s =
+  written-changed s =
       record {
         size = s .size;
-        kept = λ p o. s .kept p (o j (inl refl)) (o k (inr refl));
+        kept = λ p o. s .kept p (o (e .j) (inl refl)) (o (e .k) (inr refl));
         lines = λ t h. record { later = s .later t h; earlier = λ l. s .earlier l t h };
       }
 
-  pub changed-solved : Changed (Erased j k) (Filled r j k) run before after → Solved r run j k before after
+  pub changed-written : Changed (Erased (e .j) (e .k)) (Filled r e) run before after → Written r run e before after
   unfolding Erased
-  changed-solved c =
+  changed-written c =
       record {
         size = c .size;
         kept =
             λ p oj ok. c .kept p
-            (λ i e. ⊎-elim (λ (q : i ≡ j). rw q oj) (λ (q : i ≡ k). rw q ok) e);
+            (λ i q. ⊎-elim (λ (x : i ≡ e .j). rw x oj) (λ (x : i ≡ e .k). rw x ok) q);
         later = λ t h. c .lines t h .later;
         earlier = λ l t h. c .lines t h .earlier l;
       }
+
+-- what is written looks at no byte at an erasure
+erased-same :
+    (j k n : ℕ) (c c' : ℕ → ℕ) → ((i : ℕ) → (Erased j k n i → ⊥) → c i ≡ c' i) → erased j k c' ≡ erased j k c
+unfolding Erased erased
+erased-same j k n c c' same =
+    fun-ext
+    (λ i. elim (ℕ-discrete i k) [
+      | yes q ↦ pick-eq i k _ _ q ∙ sym (pick-eq i k _ _ q)
+      | no nk ↦
+          pick-ne i k _ _ nk
+          ∙ elim (ℕ-discrete i j) [
+            | yes q ↦ pick-eq i j _ _ q ∙ sym (pick-eq i j _ _ q)
+            | no nj ↦ pick-ne i j _ _ nj ∙ sym (same i (λ o. ⊎-elim nj nk o)) ∙ sym (pick-ne i j _ _ nj)
+          ]
+          ∙ sym (pick-ne i k _ _ nk)
+    ])
+
+pub filled-again :
+    (r : ℕ) (e : Erasures) (n : ℕ) (c c' d : ℕ → ℕ) → ((i : ℕ) → (Erased (e .j) (e .k) n i → ⊥) → c i ≡ c' i) →
+    Filled r e n c' d → Filled r e n c d
+filled-again r e n c c' d same f =
+    record { later = rw z at (f .later); earlier = λ l. rw z at (f .earlier l) }
+  where
+    z : erased (e .j) (e .k) c' ≡ erased (e .j) (e .k) c
+    z = erased-same (e .j) (e .k) n c c' same
 
 -- ---- one block
 
@@ -73,62 +101,87 @@ cleared-line run j k l0 l1 l2 cj ck apart t h =
 
 -- both erasures of each line written from the syndromes of the erased lines, whatever stood at the erasures then
 combined-erased :
-    (r : ℕ) (run : Run) (e : Erasures) (l0 l1 l2 s0 s1 : List ℕ) →
-    e .b ≡ row0 r (e .j) (e .k) → e .d ≡ row1 r (e .j) (e .k) → length l1 ≡ length l0 →
+    (r : ℕ) (run : Run) (e : Erasures) (l0 l1 l2 s0 s1 : List ℕ) → length l1 ≡ length l0 →
     ((p : ℕ) → Off run (e .j) p → Off run (e .k) p → getD l1 p 0 ≡ getD l0 p 0) →
     ((t : ℕ) → t < run .width → getD s0 t 0 ≡ syndrome0 (erased (e .j) (e .k) (lineAt l0 run t)) (run .len)) →
     ((t : ℕ) → t < run .width → getD s1 t 0 ≡ syndrome1 r (erased (e .j) (e .k) (lineAt l0 run t)) (run .len)) →
-    Combined r run e s0 s1 l1 l2 → Solved r run (e .j) (e .k) l0 l2
-unfolding solved
-combined-erased r run e l0 l1 l2 s0 s1 eb ed size kept first second co =
+    Combined r run e s0 s1 l1 l2 → Written r run e l0 l2
+combined-erased r run e l0 l1 l2 s0 s1 size kept first second co =
     record {
       size = co .size ∙ size;
       kept = λ p oj ok. co .kept p oj ok ∙ kept p oj ok;
       later =
           λ t h. co .later t h
-          ∙ ap₂ add (ap₂ (mul r) (first t h) eb) (ap₂ (mul r) (second t h) ed);
+          ∙ ap₂ (λ (x y : ℕ). add (mul r x (e .b)) (mul r y (e .d))) (first t h) (second t h);
       earlier = λ l t h. co .earlier l t h ∙ ap (λ (x : ℕ). add x (lineAt l2 run t (e .k))) (first t h);
     }
 
-pub combined-solved :
-    (r : ℕ) (run : Run) (e : Erasures) (l0 l1 l2 l3 s0 s1 : List ℕ) → run .width ≤ run .stride →
-    e .b ≡ row0 r (e .j) (e .k) → e .d ≡ row1 r (e .j) (e .k) → Cleared run (e .j) l0 l1 → Cleared run (e .k) l1 l2 →
-    Syndromes r run l2 s0 s1 → Combined r run e s0 s1 l2 l3 → Solved r run (e .j) (e .k) l0 l3
-combined-solved r run e l0 l1 l2 l3 s0 s1 apart eb ed cj ck sy co =
-    combined-erased r run e l0 l2 l3 s0 s1 eb ed (ck .size ∙ cj .size) (λ p oj ok. ck .kept p ok ∙ cj .kept p oj)
-    (λ t h. sy .first t h ∙ ap (λ (c : ℕ → ℕ). syndrome0 c (run .len)) (line t h))
-    (λ t h. sy .second t h ∙ ap (λ (c : ℕ → ℕ). syndrome1 r c (run .len)) (line t h)) co
+-- both erasures of 64 lines, the later one stored last
+pub stored-combined :
+    {r : ℕ} {run : Run} {e : Erasures} {s0 s1 x y l0 l1 l2 : List ℕ} → run .width ≡ 64 → run .width ≤ run .stride →
+    ((t : ℕ) → t < 64 → getD y t 0 ≡ add (mul r (getD s0 t 0) (e .b)) (mul r (getD s1 t 0) (e .d))) →
+    ((t : ℕ) → t < 64 → getD x t 0 ≡ add (getD s0 t 0) (getD y t 0)) →
+    Stored (run .first + run .stride * e .j) x l0 l1 → Stored (run .first + run .stride * e .k) y l1 l2 →
+    Combined r run e s0 s1 l0 l2
+unfolding lineAt
+stored-combined {r} {run} {e} {s0} {s1} w apart ys xs sj sk =
+    record {
+      size = sk .size ∙ sj .size;
+      kept =
+          λ p oj ok. sk .kept p (off-width run (e .k) p 64 (sym w) ok) ∙ sj .kept p (off-width run (e .j) p 64 (sym w) oj);
+      later = λ t h. sk .written t (omega arith) ∙ ys t (omega arith);
+      earlier =
+          λ l t h. sk .kept _ (inl (omega (arith, stride-below (run .stride) (e .j) (e .k) l)))
+          ∙ sj .written t (omega arith) ∙ xs t (omega arith)
+          ∙ ap (add (getD s0 t 0)) (sym (sk .written t (omega arith)));
+    }
+
+pub combining-cleared :
+    {r : ℕ} {run : Run} {e : Erasures} {l0 l1 l2 l3 : List ℕ} → run .width ≤ run .stride → Cleared run (e .j) l0 l1 →
+    Cleared run (e .k) l1 l2 → Combining r run run e l2 l3 → Written r run e l0 l3
+combining-cleared {r} {run} {e} {l0} {l1} {l2} {l3} apart cj ck co =
+    combined-erased r run e l0 l2 l3 (co .s0) (co .s1) (ck .size ∙ cj .size) (λ p oj ok. ck .kept p ok ∙ cj .kept p oj)
+    (λ t h. co .syndromes .first t h ∙ ap (λ (c : ℕ → ℕ). syndrome0 c (run .len)) (line t h))
+    (λ t h. co .syndromes .second t h ∙ ap (λ (c : ℕ → ℕ). syndrome1 r c (run .len)) (line t h)) (co .combined)
   where
     line : (t : ℕ) → t < run .width → lineAt l2 run t ≡ erased (e .j) (e .k) (lineAt l0 run t)
     line = cleared-line run (e .j) (e .k) l0 l1 l2 cj ck apart
 
 -- ---- one block whose lines are erased to the end
 
-pub places-inside : (run : Run) (n m : ℕ) → 0 < m → m ≤ run .len → Inside run n → Inside (places run m) n
+pub places-inside :
+    {run read : Run} {n m : ℕ} → read ≡ places run m → 0 < m → m ≤ run .len → Inside run n → Inside read n
 unfolding places
-places-inside run n m some le h =
-    record {
+places-inside {n = n} e some le h =
+    subst (λ (x : Run). Inside x n) (sym e)
+    (record {
       some-place = some;
       few-places = omega (arith, h .few-places);
       apart = h .apart;
       fits = λ i l. h .fits i (omega arith);
-    }
+    })
+
+pub places-width : (run read : Run) (m : ℕ) → read ≡ places run m → read .width ≡ run .width
+unfolding places
+places-width run read m e = ap (λ (x : Run). x .width) e
 
 line-places : (s : List ℕ) (run : Run) (m t : ℕ) → lineAt s (places run m) t ≡ lineAt s run t
 unfolding lineAt places
 line-places s run m t = fun-ext (λ i. refl)
 
-pub combined-end :
-    (r : ℕ) (run : Run) (e : Erasures) (l0 l1 s0 s1 : List ℕ) → e .j ≤ e .k → e .b ≡ row0 r (e .j) (e .k) →
-    e .d ≡ row1 r (e .j) (e .k) → ToEnd run e → Syndromes r (places run (e .j)) l0 s0 s1 →
-    Combined r run e s0 s1 l0 l1 → Solved r run (e .j) (e .k) l0 l1
+pub combining-end :
+    {r : ℕ} {run read : Run} {e : Erasures} {l0 l1 : List ℕ} → e .j ≤ e .k → ToEnd run e → read ≡ places run (e .j) →
+    Combining r read run e l0 l1 → Written r run e l0 l1
 unfolding places
-combined-end r run e l0 l1 s0 s1 le eb ed end sy co =
-    combined-erased r run e l0 l0 l1 s0 s1 eb ed refl (λ p oj ok. refl)
-    (λ t h. sy .first t h
+combining-end {r} {run} {read} {e} {l0} {l1} le end eq given =
+    combined-erased r run e l0 l0 l1 (co .s0) (co .s1) refl (λ p oj ok. refl)
+    (λ t h. co .syndromes .first t h
     ∙ ap (λ (c : ℕ → ℕ). syndrome0 c (e .j)) (line-places l0 run (e .j) t)
     ∙ sym (syndrome0-erased-end (run .len) (e .j) (e .k) (lineAt l0 run t) le (end .last) (end .two)))
-    (λ t h. sy .second t h
+    (λ t h. co .syndromes .second t h
     ∙ ap (λ (c : ℕ → ℕ). syndrome1 r c (e .j)) (line-places l0 run (e .j) t)
     ∙ sym (syndrome1-erased-end r (run .len) (e .j) (e .k) (lineAt l0 run t) le (end .last) (end .two)))
-    co
+    (co .combined)
+  where
+    co : Combining r (places run (e .j)) run e l0 l1
+    co = subst (λ (x : Run). Combining r x run e l0 l1) eq given

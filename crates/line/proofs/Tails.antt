@@ -9,7 +9,7 @@ use Rattle.field.specs.Field.{add, xtime}
 use Rattle.field.proofs.Addition.{add-comm}
 use Rattle.line.specs.declared.Run.{Run}
 use Rattle.line.specs.Run.{lineAt}
-use Rattle.line.specs.Block.{tail0, tail1, Tails, Syndromes, One, Four, horner0, horner1}
+use Rattle.line.specs.Block.{tail0, tail1, Tails, Syndromes, One, Four, Window, Step, horner0, horner1}
 use Rattle.line.proofs.Syndrome.{tail0-end, tail1-end, tail0-step, tail1-step, tail0-whole, tail1-whole}
 
 step0 : (c : ℕ → ℕ) (n i next : ℕ) → next ≡ i + 1 → i < n → add (tail0 c n next) (c i) ≡ tail0 c n i
@@ -42,24 +42,25 @@ four1 r c n i fits bytes h =
     ∙ step1 r c n i (i + 1) fits (bytes i) refl (omega arith)
 
 pub tails-none :
-    (r : ℕ) (run : Run) (s s0 s1 : List ℕ) → run .width ≤ 4096 → s0 ≡ replicate 4096 0 → s1 ≡ replicate 4096 0 →
-    Tails r run (run .len) s s0 s1
-tails-none r run s s0 s1 few e0 e1 =
+    (m r : ℕ) (run : Run) (s s0 s1 : List ℕ) → run .width ≤ m → s0 ≡ replicate m 0 → s1 ≡ replicate m 0 →
+    Tails m r run (run .len) s s0 s1
+tails-none m r run s s0 s1 few e0 e1 =
     record {
-      size0 = ap length e0 ∙ length-replicate {A = ℕ} 4096 0;
-      size1 = ap length e1 ∙ length-replicate {A = ℕ} 4096 0;
+      size0 = ap length e0 ∙ length-replicate {A = ℕ} m 0;
+      size1 = ap length e1 ∙ length-replicate {A = ℕ} m 0;
       first =
-          λ t h. ap (λ (l : List ℕ). getD l t 0) e0 ∙ getD-replicate 4096 t 0 0 (omega arith) ∙ sym (tail0-end _ _);
+          λ t h. ap (λ (l : List ℕ). getD l t 0) e0 ∙ getD-replicate m t 0 0 (omega arith) ∙ sym (tail0-end _ _);
       second =
-          λ t h. ap (λ (l : List ℕ). getD l t 0) e1 ∙ getD-replicate 4096 t 0 0 (omega arith) ∙ sym (tail1-end _ _ _);
+          λ t h. ap (λ (l : List ℕ). getD l t 0) e1 ∙ getD-replicate m t 0 0 (omega arith) ∙ sym (tail1-end _ _ _);
     }
 
 pub tails-at :
-    {r : ℕ} {run : Run} {s s0 s1 : List ℕ} (left next : ℕ) → left ≡ next → Tails r run left s s0 s1 → Tails r run next s s0 s1
-tails-at {r} {run} {s} {s0} {s1} left next e h = subst (λ (x : ℕ). Tails r run x s s0 s1) e h
+    {m r : ℕ} {run : Run} {s s0 s1 : List ℕ} (left next : ℕ) → left ≡ next → Tails m r run left s s0 s1 →
+    Tails m r run next s s0 s1
+tails-at {m} {r} {run} {s} {s0} {s1} left next e h = subst (λ (x : ℕ). Tails m r run x s s0 s1) e h
 
 pub tails-whole :
-    (r : ℕ) (run : Run) (s s0 s1 : List ℕ) → Tails r run 0 s s0 s1 → Syndromes r run s s0 s1
+    {m : ℕ} (r : ℕ) (run : Run) (s s0 s1 : List ℕ) → Tails m r run 0 s s0 s1 → Syndromes r run s s0 s1
 tails-whole r run s s0 s1 h =
     record {
       first = λ t l. h .first t l ∙ tail0-whole (lineAt s run t) (run .len);
@@ -70,9 +71,9 @@ line-byte : (s : List ℕ) (run : Run) → ((p : ℕ) → getD s p 0 < 256) → 
 unfolding lineAt
 line-byte s run bytes t i = bytes _
 
-module _ {r : ℕ} {run : Run} {left next : ℕ} {s a0 a1 : List ℕ} (fits : r < 256) (bytes : (p : ℕ) → getD s p 0 < 256)
-    (before : Tails r run next s a0 a1) {b0 b1 : List ℕ} where
-  pub tails-one : One r run left s a0 a1 b0 b1 → next ≡ left + 1 → left < run .len → Tails r run left s b0 b1
+module _ {m r : ℕ} {run : Run} {left next : ℕ} {s a0 a1 : List ℕ} (fits : r < 256) (bytes : (p : ℕ) → getD s p 0 < 256)
+    (before : Tails m r run next s a0 a1) {b0 b1 : List ℕ} where
+  pub tails-one : One r run left s a0 a1 b0 b1 → next ≡ left + 1 → left < run .len → Tails m r run left s b0 b1
   tails-one one e h =
       record {
         size0 = one .size0 ∙ before .size0;
@@ -85,7 +86,7 @@ module _ {r : ℕ} {run : Run} {left next : ℕ} {s a0 a1 : List ℕ} (fits : r 
             ∙ step1 r (lineAt s run t) (run .len) left next fits (line-byte s run bytes t left) e h;
       }
 
-  pub tails-four : Four r run left s a0 a1 b0 b1 → next ≡ left + 4 → left + 3 < run .len → Tails r run left s b0 b1
+  pub tails-four : Four r run left s a0 a1 b0 b1 → next ≡ left + 4 → left + 3 < run .len → Tails m r run left s b0 b1
   tails-four four e h =
       record {
         size0 = four .size0 ∙ before .size0;
@@ -97,6 +98,19 @@ module _ {r : ℕ} {run : Run} {left next : ℕ} {s a0 a1 : List ℕ} (fits : r 
             λ t l. four .second t l ∙ ap (horner1 r (lineAt s run t) left) (before .second t l)
             ∙ rw e (four1 r (lineAt s run t) (run .len) left fits (line-byte s run bytes t) h);
       }
+
+-- Horner's step by the bytes of the place `left`, for 64 lines
+pub step-one :
+    {r : ℕ} {run : Run} {left : ℕ} {s c a0 a1 b0 b1 : List ℕ} → run .width ≡ 64 →
+    Window s (run .first + run .stride * left) c → Step r c a0 a1 b0 b1 → One r run left s a0 a1 b0 b1
+unfolding lineAt
+step-one {r} {a0 = a0} {a1 = a1} e w st =
+    record {
+      size0 = st .size0;
+      size1 = st .size1;
+      first = λ t h. st .first t (omega arith) ∙ ap (add (getD a0 t 0)) (w .bytes t (omega arith));
+      second = λ t h. st .second t (omega arith) ∙ ap (add (xtime r (getD a1 t 0))) (w .bytes t (omega arith));
+    }
 
 -- the code's places of four steps
 module _ (s : List ℕ) (run : Run) (left t : ℕ) where

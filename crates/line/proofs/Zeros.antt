@@ -1,7 +1,7 @@
 -- An or is 0 exactly when both sides are, and so for all first bytes of two lists.
 use mathlib.Core.Path.{_≡_, sym, _∙_}
 use mathlib.Core.List.{List}
-use Prim.Native.Nat.{ℕ, _+_, _<_}
+use Prim.Native.Nat.{ℕ, _+_, _≤_, _<_}
 use native.Mathlib.Omega.{arith}
 use borrow.Author.Count.{below-more}
 use lib.ListN.{getD}
@@ -19,6 +19,10 @@ or-zero a b h =
 pub zeros-none : (s0 s1 : List ℕ) → AllZero 0 s0 s1
 zeros-none s0 s1 = record { first = λ t h. absurd (omega arith); second = λ t h. absurd (omega arith) }
 
+pub zeros-fewer : {w v : ℕ} {s0 s1 : List ℕ} → v ≤ w → AllZero w s0 s1 → AllZero v s0 s1
+zeros-fewer le z =
+    record { first = λ t h. z .first t (omega arith); second = λ t h. z .second t (omega arith) }
+
 pub zeros-more :
     (any t : ℕ) (s0 s1 : List ℕ) → (any ≡ 0 → AllZero t s0 s1) →
     bitOr (bitOr any (getD s0 t 0)) (getD s1 t 0) ≡ 0 → AllZero (t + 1) s0 s1
@@ -34,10 +38,7 @@ pub more-zeros :
     (any t : ℕ) (s0 s1 : List ℕ) → (AllZero t s0 s1 → any ≡ 0) → AllZero (t + 1) s0 s1 →
     bitOr (bitOr any (getD s0 t 0)) (getD s1 t 0) ≡ 0
 more-zeros any t s0 s1 h z =
-    let before : AllZero t s0 s1 =
-    record { first = λ k l. z .first k (omega arith); second = λ k l. z .second k (omega arith) }
-    in
-    rw (h before, z .first t (omega arith), z .second t (omega arith))
+    rw (h (zeros-fewer (omega arith) z), z .first t (omega arith), z .second t (omega arith))
 
 -- all lines are codewords exactly when all their syndromes are 0
 module _ {r : ℕ} {run : Run} {s s0 s1 : List ℕ} (sy : Syndromes r run s s0 s1) where

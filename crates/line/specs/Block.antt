@@ -2,10 +2,11 @@
 use mathlib.Core.Path.{_≡_}
 use mathlib.Core.Bool.{Bool, true}
 use mathlib.Core.List.{List}
-use Prim.Native.Nat.{ℕ, _+_, _-_, _≤_, _<_}
+use mathlib.Core.Logic.{_⊎_}
+use Prim.Native.Nat.{ℕ, _+_, _-_, _≤_, _<_, min}
 use lib.ListN.{length, getD}
 use Rattle.line.specs.declared.Run.{Run}
-use Rattle.line.specs.declared.block.Erasures.{Erasures}
+use Rattle.line.specs.declared.Erasures.{Erasures}
 use Rattle.line.specs.Line.{syndrome0, syndrome1}
 use Rattle.line.specs.Run.{lineAt, Off}
 use Rattle.field.specs.Field.{add, xtime, mul}
@@ -28,12 +29,22 @@ front run w = record { first = run .first; stride = run .stride; len = run .len;
 unfoldable pub places : Run → ℕ → Run
 places run n = record { first = run .first; stride = run .stride; len = n; width = run .width }
 
--- `next` is a block of at most 4096 lines of the run, from line a on.
+-- `next` is a block of at most 4096 lines of the run, from line a on: at least 64, or all that are left.
 pub record Block (run : Run) (a : ℕ) (next : Run) : Type 0 where
   pub lines : next ≡ part run a (next .width)
   pub some-line : 0 < next .width
+  pub enough-lines : min 64 (run .width - a) ≤ next .width
   pub few-lines : next .width ≤ 4096
   pub within : a + next .width ≤ run .width
+
+-- `next` is a block of at most 4096 lines of the run that reaches over line a and may begin before it.
+pub record Cover (run : Run) (a : ℕ) (next : Run) : Type 0 where
+  pub start : ℕ
+  pub lines : next ≡ part run start (next .width)
+  pub begins : start ≤ a
+  pub ends : a < start + next .width
+  pub few-lines : next .width ≤ 4096
+  pub within : start + next .width ≤ run .width
 
 -- the syndromes of the line c of length n from the place `left` on
 unfoldable pub tail0 : (ℕ → ℕ) → ℕ → ℕ → ℕ
@@ -42,10 +53,10 @@ tail0 c n left = syndrome0 (λ i. c (left + i)) (n - left)
 unfoldable pub tail1 : ℕ → (ℕ → ℕ) → ℕ → ℕ → ℕ
 tail1 r c n left = syndrome1 r (λ i. c (left + i)) (n - left)
 
--- s0 and s1 hold the syndromes of the run's lines from the place `left` on.
-pub record Tails (r : ℕ) (run : Run) (left : ℕ) (s s0 s1 : List ℕ) : Type 0 where
-  pub size0 : length s0 ≡ 4096
-  pub size1 : length s1 ≡ 4096
+-- s0 and s1, of m bytes each, hold the syndromes of the run's lines from the place `left` on.
+pub record Tails (m r : ℕ) (run : Run) (left : ℕ) (s s0 s1 : List ℕ) : Type 0 where
+  pub size0 : length s0 ≡ m
+  pub size1 : length s1 ≡ m
   pub first : (t : ℕ) → t < run .width → getD s0 t 0 ≡ tail0 (lineAt s run t) (run .len) left
   pub second : (t : ℕ) → t < run .width → getD s1 t 0 ≡ tail1 r (lineAt s run t) (run .len) left
 
@@ -112,3 +123,43 @@ pub record Combined (r : ℕ) (run : Run) (e : Erasures) (s0 s1 before after : L
 pub record AllZero (w : ℕ) (s0 s1 : List ℕ) : Type 0 where
   pub first : (t : ℕ) → t < w → getD s0 t 0 ≡ 0
   pub second : (t : ℕ) → t < w → getD s1 t 0 ≡ 0
+
+-- Both erasures of each line of `run`, written from the syndromes of the lines of `read`.
+pub record Combining (r : ℕ) (read run : Run) (e : Erasures) (before after : List ℕ) : Type 0 where
+  pub s0 : List ℕ
+  pub s1 : List ℕ
+  pub syndromes : Syndromes r read before s0 s1
+  pub combined : Combined r run e s0 s1 before after
+
+-- ---- strips of 64 bytes
+
+-- c holds the 64 bytes of s from `at` on.
+pub record Window (s : List ℕ) (at : ℕ) (c : List ℕ) : Type 0 where
+  pub size : length c ≡ 64
+  pub bytes : (t : ℕ) → t < 64 → getD c t 0 ≡ getD s (at + t) 0
+
+-- The 64 bytes c are written from `at` on.
+pub record Stored (at : ℕ) (c before after : List ℕ) : Type 0 where
+  pub size : length after ≡ length before
+  pub written : (t : ℕ) → t < 64 → getD after (at + t) 0 ≡ getD c t 0
+  pub kept : (p : ℕ) → (p < at) ⊎ (at + 64 ≤ p) → getD after p 0 ≡ getD before p 0
+
+-- Horner's step by a place whose bytes are c: what it makes of the bytes a0 and a1.
+pub record Step (r : ℕ) (c a0 a1 b0 b1 : List ℕ) : Type 0 where
+  pub size0 : length b0 ≡ length a0
+  pub size1 : length b1 ≡ length a1
+  pub first : (t : ℕ) → t < 64 → getD b0 t 0 ≡ add (getD a0 t 0) (getD c t 0)
+  pub second : (t : ℕ) → t < 64 → getD b1 t 0 ≡ add (xtime r (getD a1 t 0)) (getD c t 0)
+
+-- The data places of each line of `to` hold the lines of `from` in ds.
+pub record Placed (from to : Run) (ds before after : List ℕ) : Type 0 where
+  pub size : length after ≡ length before
+  pub kept : (p : ℕ) → ((i : ℕ) → i < from .len → Off to i p) → getD after p 0 ≡ getD before p 0
+  pub placed :
+      (t : ℕ) → t < to .width → (i : ℕ) → i < from .len → lineAt after to t i ≡ lineAt ds from t i
+
+-- n bytes of src from `from` on are copied to dst from `to` on.
+pub record Copied (from to n : ℕ) (src before after : List ℕ) : Type 0 where
+  pub size : length after ≡ length before
+  pub copied : (t : ℕ) → t < n → getD after (to + t) 0 ≡ getD src (from + t) 0
+  pub kept : (p : ℕ) → (p < to) ⊎ (to + n ≤ p) → getD after p 0 ≡ getD before p 0

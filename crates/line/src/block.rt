@@ -1,46 +1,41 @@
-// Blocks of at most 4096 neighbouring lines: the syndromes of all lines of a block are gathered side by side, so that the inner
-// loops run over bytes that lie next to each other.
+// A run of neighbouring lines, block by block: strips of 64 lines, or wide blocks where the run is wide and its lines are long.
+use crate::Erasures;
 use crate::Run;
+use crate::strip;
+use crate::wide;
 ghost use mathlib.Core.Path.{_≡_};
-ghost use Prim.Native.Nat.{ℕ, _+_, _*_, _/_, _^_, _<_, _≤_, min};
-ghost use lib.ListN.{length, getD, replicate};
-ghost use Rattle.line.specs.Line.{row0, row1, Codeword};
-ghost use Rattle.line.specs.Run.{Inside, Solved, lineAt};
-ghost use Rattle.line.specs.Block.{Decides, Block, ToEnd, Tails, Syndromes, One, Four, Cleared, Combined, AllZero};
+ghost use Prim.Native.Nat.{ℕ, _+_, _*_, _^_, _<_, _≤_, min};
+ghost use lib.ListN.{length};
+ghost use Rattle.line.specs.Line.{Codeword};
+ghost use Rattle.line.specs.Run.{Inside, Written, lineAt};
+ghost use Rattle.line.specs.Block.{Decides, Block, Cover, ToEnd, Cleared, Combining, part, places};
 
-const BLOCK: usize = 4096;
-
-// The erasures j ≤ k of each line of a run, with the row [b, d] of the inverted array that gives the byte at k.
-pub(crate) struct Erasures {
-    pub j: usize,
-    pub k: usize,
-    pub b: u8,
-    pub d: u8,
-}
-
-// Fills in both erasures of every line of the run, block by block.
+// Writes both erasures of every line of the run.
 pub(crate) fn solve_blocks(s: &mut [u8], reduction: u8, run: Run, e: Erasures)
-    requires { ⌜ (Inside run (length (now s))) × (e .j ≤ e .k) × (e .k < run .len) × (e .b ≡ row0 reduction (e .j) (e .k)) × (e .d ≡ row1 reduction (e .j) (e .k)) ⌝ }
-    ensures { λ r. ⌜ Solved reduction run (e .j) (e .k) (now (s .entry)) (now (s .exit)) ⌝ }
+    requires { ⌜ (Inside run (length (now s))) × (e .j ≤ e .k) × (e .k < run .len) ⌝ }
+    ensures { λ r. ⌜ Written reduction run e (now (s .entry)) (now (s .exit)) ⌝ }
 {
     let width = run.width;
     let mut done = 0;
     while done < width {
         let next = next_block(run, done);
         solve_block(s, reduction, next, e);
-        done += next.width;
+        done = next.first - run.first + next.width;
     }
 }
 
+// Where every place from j on is erased, the places before j alone count: no byte at an erasure is read or cleared.
 fn solve_block(s: &mut [u8], reduction: u8, run: Run, e: Erasures)
-    requires { ⌜ (Inside run (length (now s))) × (run .width ≤ 4096) × (e .j ≤ e .k) × (e .k < run .len) × (e .b ≡ row0 reduction (e .j) (e .k)) × (e .d ≡ row1 reduction (e .j) (e .k)) ⌝ }
-    ensures { λ r. ⌜ Solved reduction run (e .j) (e .k) (now (s .entry)) (now (s .exit)) ⌝ }
+    requires { ⌜ (Inside run (length (now s))) × (run .width ≤ 4096) × (e .j ≤ e .k) × (e .k < run .len) ⌝ }
+    ensures { λ r. ⌜ Written reduction run e (now (s .entry)) (now (s .exit)) ⌝ }
 {
     if erased_to_end(run, e) {
-        solve_end(s, reduction, run, e);
-    } else {
-        solve_any(s, reduction, run, e);
+        combine(s, reduction, first_places(run, e.j), run, e);
+        return;
     }
+    clear(s, run, e.j);
+    clear(s, run, e.k);
+    combine(s, reduction, run, run, e);
 }
 
 // Whether every place from j on is erased, and j is not the first place.
@@ -57,36 +52,18 @@ fn erased_to_end(run: Run, e: Erasures) -> bool
     run.len <= e.j + 2
 }
 
-// Where every place from j on is erased, the places before j alone count: no byte at an erasure is read or cleared.
-fn solve_end(s: &mut [u8], reduction: u8, run: Run, e: Erasures)
-    requires { ⌜ (Inside run (length (now s))) × (run .width ≤ 4096) × (e .j ≤ e .k) × (e .k < run .len) × (e .b ≡ row0 reduction (e .j) (e .k)) × (e .d ≡ row1 reduction (e .j) (e .k)) × (ToEnd run e) ⌝ }
-    ensures { λ r. ⌜ Solved reduction run (e .j) (e .k) (now (s .entry)) (now (s .exit)) ⌝ }
+fn combine(s: &mut [u8], reduction: u8, read: Run, run: Run, e: Erasures)
+    requires { ⌜ (Inside read (length (now s))) × (read .width ≡ run .width) × (Inside run (length (now s))) × (run .width ≤ 4096) × (e .j ≤ e .k) × (e .k < run .len) ⌝ }
+    ensures { λ r. ⌜ Combining reduction read run e (now (s .entry)) (now (s .exit)) ⌝ }
 {
-    let before = Run {
-        first: run.first,
-        stride: run.stride,
-        len: e.j,
-        width: run.width,
-    };
-    let mut s0 = [0u8; 4096];
-    let mut s1 = [0u8; 4096];
-    syndromes(s, &mut s0, &mut s1, reduction, before);
-    combine(s, &s0, &s1, reduction, run, e);
+    if run.width == 64 {
+        strip::solve(s, reduction, read, run, e);
+    } else {
+        wide::solve(s, reduction, read, run, e);
+    }
 }
 
-fn solve_any(s: &mut [u8], reduction: u8, run: Run, e: Erasures)
-    requires { ⌜ (Inside run (length (now s))) × (run .width ≤ 4096) × (e .j ≤ e .k) × (e .k < run .len) × (e .b ≡ row0 reduction (e .j) (e .k)) × (e .d ≡ row1 reduction (e .j) (e .k)) ⌝ }
-    ensures { λ r. ⌜ Solved reduction run (e .j) (e .k) (now (s .entry)) (now (s .exit)) ⌝ }
-{
-    clear(s, run, e.j);
-    clear(s, run, e.k);
-    let mut s0 = [0u8; 4096];
-    let mut s1 = [0u8; 4096];
-    syndromes(s, &mut s0, &mut s1, reduction, run);
-    combine(s, &s0, &s1, reduction, run, e);
-}
-
-// Whether every line of the run is a codeword, block by block.
+// Whether every line of the run is a codeword.
 pub(crate) fn codeword_blocks(s: &[u8], reduction: u8, run: Run) -> bool
     requires { ⌜ Inside run (length (now s)) ⌝ }
     ensures { λ r. ⌜ Decides ((t : ℕ) → t < run .width → Codeword reduction (lineAt (now (s .entry)) run t) (run .len)) r ⌝ }
@@ -98,32 +75,70 @@ pub(crate) fn codeword_blocks(s: &[u8], reduction: u8, run: Run) -> bool
         if !codeword_block(s, reduction, next) {
             return false;
         }
-        done += next.width;
+        done = next.first - run.first + next.width;
     }
     true
 }
 
-fn codeword_block(s: &[u8], reduction: u8, run: Run) -> bool
+pub(crate) fn codeword_block(s: &[u8], reduction: u8, run: Run) -> bool
     requires { ⌜ (Inside run (length (now s))) × (run .width ≤ 4096) ⌝ }
     ensures { λ r. ⌜ Decides ((t : ℕ) → t < run .width → Codeword reduction (lineAt (now (s .entry)) run t) (run .len)) r ⌝ }
 {
-    let mut s0 = [0u8; 4096];
-    let mut s1 = [0u8; 4096];
-    syndromes(s, &mut s0, &mut s1, reduction, run);
-    all_zero(&s0, &s1, run.width)
+    if run.width == 64 {
+        return strip::codewords(s, reduction, run);
+    }
+    wide::codewords(s, reduction, run)
 }
 
-// The next block of the run after the lines that are done.
+// The next block of the run once `done` lines are done. Where fewer than 64 lines are left, the last 64 are taken: a block may reach
+// back into lines that are done, which stay as they are, so that few blocks have another width than the fast ones.
 pub(crate) fn next_block(run: Run, done: usize) -> Run
+    requires { ⌜ (done < run .width) × (run .first + run .width < 2 ^ 64) ⌝ }
+    ensures { λ r. ⌜ Cover run done r ⌝ }
+{
+    let next = block_after(run, done);
+    let width = run.width;
+    if next.width < 64 && 64 <= width {
+        return lines_from(run, width - 64, 64);
+    }
+    next
+}
+
+// The block that follows the lines that are done. Where many long lines lie side by side, 4096 are taken together, so that memory is
+// read in long pieces; else 64, whose syndromes stay in registers.
+pub(crate) fn block_after(run: Run, done: usize) -> Run
     requires { ⌜ (done < run .width) × (run .first + run .width < 2 ^ 64) ⌝ }
     ensures { λ r. ⌜ Block run done r ⌝ }
 {
-    let first = run.first + done;
+    let left = run.width - done;
+    if 32 < run.len && 4096 <= run.width {
+        return lines_from(run, done, least(left, 4096));
+    }
+    lines_from(run, done, least(left, 64))
+}
+
+// The w lines of the run from line a on.
+pub(crate) fn lines_from(run: Run, a: usize, w: usize) -> Run
+    requires { ⌜ run .first + a < 2 ^ 64 ⌝ }
+    ensures { λ r. ⌜ r ≡ part run a w ⌝ }
+{
     Run {
-        first: first,
+        first: run.first + a,
         stride: run.stride,
         len: run.len,
-        width: least(run.width - done, BLOCK),
+        width: w,
+    }
+}
+
+// The first n places of the run's lines.
+fn first_places(run: Run, n: usize) -> Run
+    ensures { λ r. ⌜ r ≡ places run n ⌝ }
+{
+    Run {
+        first: run.first,
+        stride: run.stride,
+        len: n,
+        width: run.width,
     }
 }
 
@@ -131,116 +146,6 @@ fn least(a: usize, b: usize) -> usize
     ensures { λ r. ⌜ r ≡ min a b ⌝ }
 {
     if a < b { a } else { b }
-}
-
-// Both syndromes of each line of a block, by Horner's rule from the far end; s0 and s1 come in as zeros.
-pub(crate) fn syndromes(s: &[u8], s0: &mut [u8; 4096], s1: &mut [u8; 4096], reduction: u8, run: Run)
-    requires { ⌜ (Inside run (length (now s))) × (run .width ≤ 4096) × (now s0 ≡ replicate 4096 0) × (now s1 ≡ replicate 4096 0) ⌝ }
-    ensures { λ r. ⌜ Syndromes reduction run (now (s .entry)) (now (s0 .exit)) (now (s1 .exit)) ⌝ }
-{
-    ones(s, s0, s1, reduction, run);
-    fours(s, s0, s1, reduction, run);
-}
-
-// The places past the last multiple of four, of which there are at most three.
-fn ones(s: &[u8], s0: &mut [u8; 4096], s1: &mut [u8; 4096], reduction: u8, run: Run)
-    requires { ⌜ (Inside run (length (now s))) × (run .width ≤ 4096) × (Tails reduction run (run .len) (now s) (now s0) (now s1)) ⌝ }
-    ensures { λ r. ⌜ Tails reduction run (run .len / 4 * 4) (now (s .entry)) (now (s0 .exit)) (now (s1 .exit)) ⌝ }
-{
-    let left = run.len / 4 * 4;
-    one_below(s, s0, s1, reduction, run, left + 2);
-    one_below(s, s0, s1, reduction, run, left + 1);
-    one_below(s, s0, s1, reduction, run, left);
-}
-
-// A step by a place that the lines may be too short for.
-fn one_below(
-    s: &[u8],
-    s0: &mut [u8; 4096],
-    s1: &mut [u8; 4096],
-    reduction: u8,
-    run: Run,
-    left: usize,
-)
-    requires { ⌜ (Inside run (length (now s))) × (run .width ≤ 4096) × (Tails reduction run (min (left + 1) (run .len)) (now s) (now s0) (now s1)) ⌝ }
-    ensures { λ r. ⌜ Tails reduction run (min left (run .len)) (now (s .entry)) (now (s0 .exit)) (now (s1 .exit)) ⌝ }
-{
-    if left < run.len {
-        one(s, s0, s1, reduction, run, left);
-    }
-}
-
-// Four places a pass, so that the sums are read and written once for four. From a multiple of four (left - 1) / 4 * 4 is left - 4;
-// written so, the compiler does not see a fixed step downwards, for which it would give up the vector form of the inner loop.
-fn fours(s: &[u8], s0: &mut [u8; 4096], s1: &mut [u8; 4096], reduction: u8, run: Run)
-    requires { ⌜ (Inside run (length (now s))) × (run .width ≤ 4096) × (Tails reduction run (run .len / 4 * 4) (now s) (now s0) (now s1)) ⌝ }
-    ensures { λ r. ⌜ Tails reduction run 0 (now (s .entry)) (now (s0 .exit)) (now (s1 .exit)) ⌝ }
-{
-    let mut left = run.len / 4 * 4;
-    while 0 < left {
-        left = (left - 1) / 4 * 4;
-        four(s, s0, s1, reduction, run, left);
-    }
-}
-
-fn four(s: &[u8], s0: &mut [u8; 4096], s1: &mut [u8; 4096], reduction: u8, run: Run, left: usize)
-    requires { ⌜ (Inside run (length (now s))) × (run .width ≤ 4096) × (left + 3 < run .len) × (length (now s0) ≡ 4096) × (length (now s1) ≡ 4096) ⌝ }
-    ensures { λ r. ⌜ Four reduction run left (now (s .entry)) (now (s0 .entry)) (now (s1 .entry)) (now (s0 .exit)) (now (s1 .exit)) ⌝ }
-{
-    let stride = run.stride;
-    let width = run.width;
-    let at = run.first + stride * left;
-    let at1 = at + stride;
-    let at2 = at1 + stride;
-    let at3 = at2 + stride;
-    let mut t = 0;
-    while t < width {
-        let c0 = s[at + t];
-        let c1 = s[at1 + t];
-        let c2 = s[at2 + t];
-        let c3 = s[at3 + t];
-        s0[t] = s0[t] ^ c3 ^ c2 ^ c1 ^ c0;
-        let h3 = field::xtime(reduction, s1[t]) ^ c3;
-        let h2 = field::xtime(reduction, h3) ^ c2;
-        let h1 = field::xtime(reduction, h2) ^ c1;
-        s1[t] = field::xtime(reduction, h1) ^ c0;
-        t += 1;
-    }
-}
-
-fn one(s: &[u8], s0: &mut [u8; 4096], s1: &mut [u8; 4096], reduction: u8, run: Run, left: usize)
-    requires { ⌜ (Inside run (length (now s))) × (run .width ≤ 4096) × (left < run .len) × (length (now s0) ≡ 4096) × (length (now s1) ≡ 4096) ⌝ }
-    ensures { λ r. ⌜ One reduction run left (now (s .entry)) (now (s0 .entry)) (now (s1 .entry)) (now (s0 .exit)) (now (s1 .exit)) ⌝ }
-{
-    let width = run.width;
-    let at = run.first + run.stride * left;
-    let mut t = 0;
-    while t < width {
-        let c = s[at + t];
-        s0[t] = s0[t] ^ c;
-        s1[t] = field::xtime(reduction, s1[t]) ^ c;
-        t += 1;
-    }
-}
-
-// Writes the bytes at both erasures of each line of a block; the later one last, so that it stands where both are one.
-fn combine(s: &mut [u8], s0: &[u8; 4096], s1: &[u8; 4096], reduction: u8, run: Run, e: Erasures)
-    requires { ⌜ (Inside run (length (now s))) × (run .width ≤ 4096) × (e .j ≤ e .k) × (e .k < run .len) ⌝ }
-    ensures { λ r. ⌜ Combined reduction run e (now (s0 .entry)) (now (s1 .entry)) (now (s .entry)) (now (s .exit)) ⌝ }
-{
-    let width = run.width;
-    let b = e.b;
-    let d = e.d;
-    let at_j = run.first + run.stride * e.j;
-    let at_k = run.first + run.stride * e.k;
-    let mut t = 0;
-    while t < width {
-        let x = s0[t];
-        let y = field::dot(reduction, x, b, s1[t], d);
-        s[at_j + t] = x ^ y;
-        s[at_k + t] = y;
-        t += 1;
-    }
 }
 
 // Makes place i of each line of the run 00h.
@@ -255,18 +160,4 @@ fn clear(s: &mut [u8], run: Run, i: usize)
         s[at + t] = 0;
         t += 1;
     }
-}
-
-// Whether both syndromes of each line are 0: the bytes are joined by or, so that no line costs a branch.
-pub(crate) fn all_zero(s0: &[u8; 4096], s1: &[u8; 4096], width: usize) -> bool
-    requires { ⌜ width ≤ 4096 ⌝ }
-    ensures { λ r. ⌜ Decides (AllZero width (now (s0 .entry)) (now (s1 .entry))) r ⌝ }
-{
-    let mut any: u8 = 0;
-    let mut t = 0;
-    while t < width {
-        any = any | s0[t] | s1[t];
-        t += 1;
-    }
-    any == 0
 }

@@ -2,6 +2,7 @@
 use crate::Place;
 use crate::Run;
 use crate::block;
+use crate::wide;
 ghost use mathlib.Core.Path.{_≡_};
 ghost use Prim.Native.Nat.{ℕ, _<_, _≤_};
 ghost use lib.ListN.{length, getD};
@@ -48,22 +49,24 @@ pub(crate) fn correct_blocks(s: &mut [u8], reduction: u8, run: Run)
     let width = run.width;
     let mut done = 0;
     while done < width {
-        let next = block::next_block(run, done);
+        let next = block::block_after(run, done);
         correct_block(s, reduction, next);
         done += next.width;
     }
 }
 
+// Most blocks hold codewords alone, and need no more than to be looked at.
 fn correct_block(s: &mut [u8], reduction: u8, run: Run)
     requires { ⌜ (Primitive reduction) × (Inside run (length (now s))) × (run .width ≤ 4096) ⌝ }
     ensures { λ r. ⌜ Corrected reduction run (now (s .entry)) (now (s .exit)) ⌝ }
 {
+    if block::codeword_block(s, reduction, run) {
+        return;
+    }
     let mut s0 = [0u8; 4096];
     let mut s1 = [0u8; 4096];
-    block::syndromes(s, &mut s0, &mut s1, reduction, run);
-    if !block::all_zero(&s0, &s1, run.width) {
-        correct_lines(s, &s0, &s1, reduction, run);
-    }
+    wide::syndromes(s, &mut s0, &mut s1, reduction, run);
+    correct_lines(s, &s0, &s1, reduction, run);
 }
 
 fn correct_lines(s: &mut [u8], s0: &[u8; 4096], s1: &[u8; 4096], reduction: u8, run: Run)

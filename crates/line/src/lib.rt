@@ -1,11 +1,14 @@
 // Lines: both syndromes of many neighbouring lines at once, erasures filled in, codewords recognised. Every public function is total.
 mod block;
 mod corrector;
+mod encoder;
 mod solver;
+mod strip;
+mod wide;
 
 ghost use mathlib.Core.Path.{_≡_};
 ghost use Rattle.field.specs.Field.{reduction};
-ghost use Rattle.line.specs.Run.{SolveOutcome, CodewordsOutcome, CorrectOutcome, PlaceOutcome, Inside};
+ghost use Rattle.line.specs.Run.{erasuresAt, SolveOutcome, EncodeOutcome, CodewordsOutcome, CorrectOutcome, PlaceOutcome, Inside};
 ghost use Rattle.line.specs.Block.{Decides};
 
 // Neighbouring lines of one length: place i of line t is the byte first + stride * i + t, for t below width.
@@ -22,30 +25,67 @@ pub enum Place {
     Nowhere,
 }
 
-// Fills in the erasures j and k (one erasure where they are equal) of every line of the run, whatever bytes stand there.
-pub fn solve(s: &mut [u8], run: Run, j: usize, k: usize) -> bool
-    ensures { λ r. ⌜ SolveOutcome reduction run j k (now (s .entry)) (now (s .exit)) r ⌝ }
+// The erasures j ≤ k of each line of a run, one erasure where they are equal, with the row [b, d] of the inverted array that gives
+// the byte at k.
+pub struct Erasures {
+    pub j: usize,
+    pub k: usize,
+    pub b: u8,
+    pub d: u8,
+}
+
+// The erasures j and k: inverts their array once for all lines.
+pub fn erasures_at(j: u8, k: u8) -> Erasures
+    ensures { λ r. ⌜ r ≡ erasuresAt reduction j k ⌝ }
+{
+    let row = solver::second_row(field::reduction(), j as usize, k as usize);
+    Erasures {
+        j: j as usize,
+        k: k as usize,
+        b: row[0],
+        d: row[1],
+    }
+}
+
+// Fills in the erasures of every line of the run, whatever bytes stand there.
+pub fn solve(s: &mut [u8], run: Run, e: Erasures) -> bool
+    ensures { λ r. ⌜ SolveOutcome reduction run e (now (s .entry)) (now (s .exit)) r ⌝ }
 {
     let n = s.len();
     if !inside(n, run) {
         return false;
     }
-    let len = run.len;
-    if k < j {
+    if e.k < e.j {
         return false;
     }
-    if len <= k {
+    if run.len <= e.k {
         return false;
     }
-    let reduction = field::reduction();
-    let row = solver::second_row(reduction, j, k);
-    let e = block::Erasures {
-        j: j,
-        k: k,
-        b: row[0],
-        d: row[1],
-    };
-    block::solve_blocks(s, reduction, run, e);
+    block::solve_blocks(s, field::reduction(), run, e);
+    true
+}
+
+// Writes codewords: the data places of each line of `to` are the line of `from` in `data`, the last two places are parity.
+pub fn encode(data: &[u8], s: &mut [u8], from: Run, to: Run) -> bool
+    ensures { λ r. ⌜ EncodeOutcome reduction from to (now («data» .entry)) (now (s .entry)) (now (s .exit)) r ⌝ }
+{
+    let n = s.len();
+    if !inside(n, to) {
+        return false;
+    }
+    let m = data.len();
+    if !inside(m, from) {
+        return false;
+    }
+    if from.len + 2 != to.len {
+        return false;
+    }
+    if from.width != to.width {
+        return false;
+    }
+    let last = (to.len - 1) as u8;
+    let e = erasures_at(last - 1, last);
+    encoder::encode_blocks(data, s, field::reduction(), from, to, e);
     true
 }
 

@@ -40,36 +40,36 @@ mul-column : tie.Need-mul-column Inv-loop μ-loop
 mul-column c = omega (arith, columns c .within, lines-small _ 2 (start c .pre .0))
 
 add-lines-right : tie.Need-add-lines-right Inv-loop μ-loop
-add-lines-right c = omega (arith, rows c .within, lines-small _ 1 (start c .pre .0))
+add-lines-right c = omega (arith, columns c .within, lines-small _ 2 (start c .pre .0))
 
 lines-right-requires : tie.Need-lines-right-requires Inv-loop μ-loop
-lines-right-requires c κs = (start c .pre .0, start c .pre .1, omega arith, omega arith, rows c)
+lines-right-requires c κs = (start c .pre .0, start c .pre .1, omega arith, omega arith, columns c)
 
 returns : tie.Need-returns Inv-loop μ-loop
 returns c =
     record {
       yes-when = λ h.
           sym (not-true _ (c .if1 .taken))
-          ∙ c .before .lines-right .ensures .yes-when (right-fewer _ _ _ _ _ _ _ _ (omega arith) (rows (c .before .before) .within) (h .0));
+          ∙ c .before .lines-right .ensures .yes-when (right-fewer _ _ _ _ _ _ _ _ (omega arith) (columns (c .before .before) .within) (h .1));
       yes-then = λ e. absurd (false≢true e);
     }
 
 add-lines-right-2 : tie.Need-add-lines-right-2 Inv-loop μ-loop
 add-lines-right-2 c =
     let l = c .before .before in
-    omega (arith, columns l .within, lines-small _ 2 (start l .pre .0))
+    omega (arith, rows l .within, lines-small _ 1 (start l .pre .0))
 
 lines-right-requires-2 : tie.Need-lines-right-requires-2 Inv-loop μ-loop
 lines-right-requires-2 c κs =
     let l = c .before .before in
-    (start l .pre .0, start l .pre .1, omega arith, omega arith, columns l)
+    (start l .pre .0, start l .pre .1, omega arith, omega arith, rows l)
 
 returns-2 : tie.Need-returns-2 Inv-loop μ-loop
 returns-2 c =
     record {
       yes-when = λ h.
           sym (not-true _ (c .if2 .taken))
-          ∙ c .before .lines-right2 .ensures .yes-when (right-fewer _ _ _ _ _ _ _ _ (omega arith) (columns (c .before .before .before .before) .within) (h .1));
+          ∙ c .before .lines-right2 .ensures .yes-when (right-fewer _ _ _ _ _ _ _ _ (omega arith) (rows (c .before .before .before .before) .within) (h .0));
       yes-then = λ e. absurd (false≢true e);
     }
 
@@ -86,9 +86,9 @@ loop-again c =
     let inv = l .before .loop .inv in (
       omega arith,
       right-fewer _ _ _ _ _ _ _ _ (omega arith) (omega (arith, suc-mul (l .before .loop .c) (sh .l2)))
-          (right-append _ _ _ _ _ _ _ (inv .1) (c .before .before .before .lines-right .ensures .yes-then (not-false _ (c .before .before .if1 .left)))),
+          (right-append _ _ _ _ _ _ _ (inv .1) (c .before .lines-right2 .ensures .yes-then (not-false _ (c .if2 .left)))),
       right-fewer _ _ _ _ _ _ _ _ (omega arith) (omega (arith, suc-mul (l .before .loop .c) (sh .l1)))
-          (right-append _ _ _ _ _ _ _ (inv .2) (c .before .lines-right2 .ensures .yes-then (not-false _ (c .if2 .left)))),
+          (right-append _ _ _ _ _ _ _ (inv .2) (c .before .before .before .lines-right .ensures .yes-then (not-false _ (c .before .before .if1 .left)))),
     )
 
 returns-3 : tie.Need-returns-3 Inv-loop μ-loop

@@ -1,11 +1,11 @@
--- `encode_plane` codes the data rows, then completes every column.
-use Prim.Native.Nat.{_*_, _≤_}
-use lib.ListN.{length}
+-- `encode_plane` completes the data columns, then every row.
+use Prim.Native.Nat.{_-_}
 use native.Mathlib.Omega.{arith}
 use borrow.Author.Needs.{needs}
+use lib.ListN.{length}
 use Rattle.field.proofs.Primitive.{primitive}
-use Rattle.cube.proofs.Bytes.{Small, small, rows-in-plane}
-use Rattle.cube.proofs.Completing.{sideRun, side-inside, outcome-solved}
+use Rattle.cube.proofs.Bytes.{Small, small}
+use Rattle.cube.proofs.Completing.{columnsRun, columns-inside, outcome-solved}
 use Rattle.cube.proofs.Planes.{plane-code}
 use Rattle.cube.proofs.encoder.encode_plane.Statement.{statement}
 use Rattle.cube.proofs.encoder.encode_plane.Tie as tie
@@ -13,45 +13,66 @@ use Rattle.cube.proofs.encoder.encode_plane.Tie as tie
 sizes : (s : tie.Start) → Small (s .args .sh)
 sizes s = small (s .args .sh) (s .pre .0)
 
-mul-row : tie.Need-mul-row
-mul-row c = omega (arith, sizes (c .before .before .before))
+mul-erasures-at : tie.Need-mul-erasures-at
+mul-erasures-at c = omega (arith, sizes (c .before .before))
 
-encode-rows-requires : tie.Need-encode-rows-requires
-encode-rows-requires c κs = search needs
+sub-erasures-at : tie.Need-sub-erasures-at
+sub-erasures-at c = search needs
 
-sub-solve : tie.Need-sub-solve
-sub-solve c = search needs
+mul-erasures-at-2 : tie.Need-mul-erasures-at-2
+mul-erasures-at-2 c = omega (arith, sizes (c .before .before .before))
 
-sub-solve-2 : tie.Need-sub-solve-2
-sub-solve-2 c = search needs
+sub-erasures-at-2 : tie.Need-sub-erasures-at-2
+sub-erasures-at-2 c = search needs
+
+cast-erasures-at : tie.Need-cast-erasures-at
+cast-erasures-at c = search needs
+
+sub-erasures-at-3 : tie.Need-sub-erasures-at-3
+sub-erasures-at-3 c = search needs
+
+cast-erasures-at-2 : tie.Need-cast-erasures-at-2
+cast-erasures-at-2 c = search needs
+
+erasures-at-requires : tie.Need-erasures-at-requires
+erasures-at-requires c κs = search needs
 
 solve-requires : tie.Need-solve-requires
 solve-requires c κs = search needs
+
+complete-rows-requires : tie.Need-complete-rows-requires
+complete-rows-requires c κs = search needs
 
 same-length : tie.Need-same-length
 same-length c = search needs
 
 returns : tie.Need-returns
-unfolding sideRun
+unfolding columnsRun
 returns c =
-    let solved = c .before .before in
-    let coded = solved .before .before .before .before in
-    let start = coded .before .before .before .before .before in
+    let completed = c .before .before in
+    let solved = completed .before .before .before .before in
+    let start = solved .before .before .before .before .before .before in
     let sh = start .args .sh in
-    let room : sh .l2 * (sh .l1 * sh .w) ≤ length (coded .encode-rows .last .1 .0) =
-    omega (arith, rows-in-plane (sh .l1) (sh .l2) (sh .w), coded .encode-rows .kept .1 .0) in
-    plane-code _ primitive sh (start .pre .0) _ _ _ (coded .encode-rows .ensures)
-    (outcome-solved _ _ _ _ _ _ _ (solved .solve .ensures)
-    (side-inside _ _ _ (omega arith) (omega arith) room) (omega arith) (omega arith))
+    let v = start .pre .0 in
+    let inside = columns-inside (sh .l1) (sh .l2) (sh .w) (length (start .args .plane .now)) (omega arith) (v .l2-high) (omega arith) in
+    plane-code _ primitive sh v _ _ _ (λ p. omega (arith, c .slice-known3 .given p)) inside
+    (outcome-solved _ _ (sh .l2 - 2) (sh .l2 - 1) _ _ _ (rw (solved .before .erasures-at .ensures) at (solved .solve .ensures)) inside (omega arith)
+    (omega arith))
+    (completed .complete-rows .ensures)
 
 pub encode-plane-spec : {M : Type 1} → statement M
 encode-plane-spec =
     tie.close
     (tie.spec
-    mul-row
-    encode-rows-requires
-    sub-solve
-    sub-solve-2
+    mul-erasures-at
+    sub-erasures-at
+    mul-erasures-at-2
+    sub-erasures-at-2
+    cast-erasures-at
+    sub-erasures-at-3
+    cast-erasures-at-2
+    erasures-at-requires
     solve-requires
+    complete-rows-requires
     same-length
     returns)

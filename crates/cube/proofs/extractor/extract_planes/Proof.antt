@@ -52,7 +52,7 @@ inside : (c : tie.In-loop Inv-loop μ-loop) →
     (c .before .loop .c * planeBytes (start c .args .sh) + planeBytes (start c .args .sh) ≤ length (start c .args .cube .now))
     × (c .before .loop .c * partBytes (start c .args .sh) + partBytes (start c .args .sh) ≤ length (c .before .loop .«data»))
 inside c =
-    let plane = plane-inside (start c .args .sh) (c .before .loop .c) (c .loop-test .taken) in
+    let plane = plane-inside (start c .args .sh) (c .before .loop .c) (omega arith) in
     let part = data-plane-inside (start c .args .sh) (c .before .loop .c) (c .loop-test .taken) in
     (omega arith, omega arith)
 

@@ -5,7 +5,7 @@ use Rattle.line.specs.Line.{Codeword}
 use Rattle.line.specs.Run.{lineAt}
 use Rattle.line.proofs.Decision.{decides-yes, decides-no, decides-refuted, decides-proved}
 use Rattle.line.proofs.Geometry.{inside-first}
-use Rattle.line.proofs.Parts.{block-inside, codewords-block, codewords-more}
+use Rattle.line.proofs.Parts.{cover-inside, cover-first, codewords-block, codewords-more}
 use Rattle.line.proofs.block.codeword_blocks.Statement.{statement}
 use Rattle.line.proofs.block.codeword_blocks.Tie as tie
 
@@ -23,21 +23,31 @@ next-block-requires : tie.Need-next-block-requires Inv-loop μ-loop
 next-block-requires c κs = omega (arith, inside-first _ _ (c .before .before .before .pre))
 
 codeword-block-requires : tie.Need-codeword-block-requires Inv-loop μ-loop
-codeword-block-requires c κs = (block-inside _ _ _ _ (c .before .before .before .before .pre) (c .next-block .ensures), c .next-block .ensures .few-lines)
+codeword-block-requires c κs = (cover-inside _ _ _ _ (c .before .before .before .before .pre) (c .next-block .ensures), c .next-block .ensures .few-lines)
 
 returns : tie.Need-returns Inv-loop μ-loop
 returns c =
     decides-no
     (λ h. decides-refuted (c .before .codeword-block .ensures) (c .if1 .taken) (codewords-block _ _ (c .before .before .next-block .ensures) h))
 
+sub-done : tie.Need-sub-done Inv-loop μ-loop
+sub-done c = omega (arith, cover-first (c .before .before .before .before .next-block .ensures))
+
 add-done : tie.Need-add-done Inv-loop μ-loop
-add-done c = omega (arith, inside-first _ _ (c .before .before .before .before .before .before .before .pre), c .before .before .before .next-block .ensures .within)
+add-done c =
+    omega
+    (arith, cover-first (c .before .before .before .before .before .next-block .ensures), c .before .before .before .before .before .next-block .ensures .within, inside-first _ _ (c .before .before .before .before .before .before .before .before .before .pre))
 
 loop-less : tie.Need-loop-less Inv-loop μ-loop
-loop-less c = omega (arith, c .before .before .before .next-block .ensures .within, c .before .before .before .next-block .ensures .some-line)
+loop-less c =
+    omega
+    (arith, cover-first (c .before .before .before .before .before .next-block .ensures), c .before .before .before .before .before .next-block .ensures .ends, c .before .before .before .before .before .next-block .ensures .within)
 
 loop-again : tie.Need-loop-again Inv-loop μ-loop
-loop-again c = (c .before .before .before .next-block .ensures .within, codewords-more _ _ (c .before .before .before .next-block .ensures) (c .before .before .before .before .before .loop .inv .1) (decides-proved (c .before .before .codeword-block .ensures) (c .before .if1 .left)))
+loop-again c = (
+  omega (arith, cover-first (c .before .before .before .before .before .next-block .ensures), c .before .before .before .before .before .next-block .ensures .within),
+  codewords-more _ _ (c .before .before .before .before .before .next-block .ensures) (c .before .before .before .before .before .before .before .loop .inv .1) (decides-proved (c .before .before .before .before .codeword-block .ensures) (c .before .before .before .if1 .left)),
+)
 
 returns-2 : tie.Need-returns-2 Inv-loop μ-loop
 returns-2 c = decides-yes (λ t h. c .before .loop .inv .1 t (omega arith))
@@ -52,6 +62,7 @@ codeword-blocks-spec =
     next-block-requires
     codeword-block-requires
     returns
+    sub-done
     add-done
     loop-less
     loop-again

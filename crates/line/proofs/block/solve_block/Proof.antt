@@ -1,39 +1,63 @@
--- `line::block::solve_block` picks the way that reads less.
+-- `line::block::solve_block` writes both erasures of each line of a block from the syndromes of the erased lines.
+use mathlib.Core.Path.{refl, _∙_}
+use native.Mathlib.Omega.{arith}
+use Rattle.line.proofs.Parts.{inside-size}
+use Rattle.line.proofs.Solving.{places-inside, places-width, combining-end, combining-cleared}
 use borrow.Author.Needs.{needs}
 use Rattle.line.proofs.block.solve_block.Statement.{statement}
 use Rattle.line.proofs.block.solve_block.Tie as tie
 
 erased-to-end-requires : tie.Need-erased-to-end-requires
-erased-to-end-requires c κs = (c .before .pre .0 .few-places, c .before .pre .2, c .before .pre .3)
+erased-to-end-requires c κs = search needs
 
-solve-end-requires : tie.Need-solve-end-requires
-solve-end-requires c κs =
-    let start = c .before .before .before .before in
-    (start .pre .0, start .pre .1, start .pre .2, start .pre .3, start .pre .4, start .pre .5, c .before .before .erased-to-end .ensures .then (c .before .if1 .taken))
+first-places-requires : tie.Need-first-places-requires
+first-places-requires c κs = search needs
 
-solve-any-requires : tie.Need-solve-any-requires
-solve-any-requires c κs = search needs
+combine-requires : tie.Need-combine-requires
+combine-requires c κs =
+    let end = c .before .before .before .erased-to-end .ensures .then (c .before .before .if1 .taken) in (
+      places-inside (c .first-places .ensures) (end .some-place) (omega arith) (c .before .before .before .before .before .pre .0),
+      places-width _ _ _ (c .first-places .ensures),
+      c .before .before .before .before .before .pre .0,
+      c .before .before .before .before .before .pre .1,
+      c .before .before .before .before .before .pre .2,
+      c .before .before .before .before .before .pre .3,
+    )
 
 same-length : tie.Need-same-length
 same-length c = search needs
 
 returns : tie.Need-returns
-returns c = search needs
+returns c = combining-end (c .before .before .before .before .before .before .before .before .pre .2) (c .before .before .before .before .before .before .erased-to-end .ensures .then (c .before .before .before .before .before .if1 .taken)) (c .before .before .before .first-places .ensures) (c .before .before .combine .ensures)
+
+clear-requires : tie.Need-clear-requires
+clear-requires c κs = search needs
+
+clear-requires-2 : tie.Need-clear-requires-2
+clear-requires-2 c κs = (inside-size (c .before .before .before .before .before .before .before .before .pre .0) (c .before .before .before .clear .ensures .size), c .before .before .before .before .before .before .before .before .pre .3)
+
+combine-requires-2 : tie.Need-combine-requires-2
+combine-requires-2 c κs =
+    let inside = inside-size (c .before .before .before .before .before .before .before .before .before .before .before .before .pre .0) (c .before .before .before .clear2 .ensures .size ∙ c .before .before .before .before .before .before .before .clear .ensures .size) in
+    (inside, refl, inside, c .before .before .before .before .before .before .before .before .before .before .before .before .pre .1, c .before .before .before .before .before .before .before .before .before .before .before .before .pre .2, c .before .before .before .before .before .before .before .before .before .before .before .before .pre .3)
 
 same-length-2 : tie.Need-same-length-2
 same-length-2 c = search needs
 
 returns-2 : tie.Need-returns-2
-returns-2 c = search needs
+returns-2 c = combining-cleared (c .before .before .before .before .before .before .before .before .before .before .before .before .before .before .before .pre .0 .apart) (c .before .before .before .before .before .before .before .before .before .before .clear .ensures) (c .before .before .before .before .before .before .clear2 .ensures) (c .before .before .combine2 .ensures)
 
 pub solve-block-spec : {M : Type 1} → statement M
 solve-block-spec =
     tie.close
     (tie.spec
     erased-to-end-requires
-    solve-end-requires
-    solve-any-requires
+    first-places-requires
+    combine-requires
     same-length
     returns
+    clear-requires
+    clear-requires-2
+    combine-requires-2
     same-length-2
     returns-2)

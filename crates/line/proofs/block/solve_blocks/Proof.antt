@@ -1,17 +1,16 @@
--- `line::block::solve_blocks` fills in both erasures of each line of a run, block by block.
+-- `line::block::solve_blocks` writes both erasures of each line of a run, block by block.
 use Prim.Native.Nat.{_-_, _≤_}
 use native.Mathlib.Omega.{arith}
 use Rattle.line.specs.Block.{front}
 use Rattle.line.proofs.Geometry.{inside-first}
-use Rattle.line.proofs.Parts.{Changed, changed-none, changed-next, changed-all, block-inside, block-place, inside-size}
-use Rattle.line.proofs.Solving.{Erased, Filled, solved-changed, changed-solved}
+use Rattle.line.proofs.Parts.{Changed, changed-none, changed-over, changed-all, cover-inside, cover-place, cover-first, inside-size}
+use Rattle.line.proofs.Solving.{Erased, Filled, written-changed, changed-written, filled-again}
 use Rattle.line.proofs.block.solve_blocks.Statement.{statement}
 use Rattle.line.proofs.block.solve_blocks.Tie as tie
 
 abbrev Inv-loop : tie.InvT-loop
 Inv-loop s₀ reduction run e width done₀ s done =
-    (done ≤ run .width)
-    × Changed (Erased (e .j) (e .k)) (Filled reduction (e .j) (e .k)) (front run done) s₀ s
+    (done ≤ run .width) × Changed (Erased (e .j) (e .k)) (Filled reduction e) (front run done) s₀ s
 
 abbrev μ-loop : tie.MeasureT-loop
 μ-loop s₀ reduction run e width done₀ s done = run .width - done
@@ -24,31 +23,37 @@ next-block-requires c κs = omega (arith, inside-first _ _ (c .before .before .b
 
 solve-block-requires : tie.Need-solve-block-requires Inv-loop μ-loop
 solve-block-requires c κs = (
-  block-inside _ _ _ _ (inside-size (c .before .before .before .before .before .pre .0) (c .before .before .before .loop .inv .1 .size)) (c .before .next-block .ensures),
+  cover-inside _ _ _ _ (inside-size (c .before .before .before .before .before .pre .0) (c .before .before .before .loop .inv .1 .size)) (c .before .next-block .ensures),
   c .before .next-block .ensures .few-lines,
   c .before .before .before .before .before .pre .1,
-  block-place _ _ _ _ (c .before .next-block .ensures) (c .before .before .before .before .before .pre .2),
-  c .before .before .before .before .before .pre .3,
-  c .before .before .before .before .before .pre .4,
+  cover-place _ _ _ _ (c .before .next-block .ensures) (c .before .before .before .before .before .pre .2),
 )
 
+sub-done : tie.Need-sub-done Inv-loop μ-loop
+sub-done c = omega (arith, cover-first (c .before .before .before .before .before .before .next-block .ensures))
+
 add-done : tie.Need-add-done Inv-loop μ-loop
-add-done c = omega (arith, inside-first _ _ (c .before .before .before .before .before .before .before .before .before .pre .0), c .before .before .before .before .before .next-block .ensures .within)
+add-done c =
+    omega
+    (arith, cover-first (c .before .before .before .before .before .before .before .next-block .ensures), c .before .before .before .before .before .before .before .next-block .ensures .within, inside-first _ _ (c .before .before .before .before .before .before .before .before .before .before .before .pre .0))
 
 loop-less : tie.Need-loop-less Inv-loop μ-loop
-loop-less c = omega (arith, c .before .before .before .before .before .next-block .ensures .within, c .before .before .before .before .before .next-block .ensures .some-line)
+loop-less c =
+    omega
+    (arith, cover-first (c .before .before .before .before .before .before .before .next-block .ensures), c .before .before .before .before .before .before .before .next-block .ensures .ends, c .before .before .before .before .before .before .before .next-block .ensures .within)
 
 loop-again : tie.Need-loop-again Inv-loop μ-loop
 loop-again c = (
-  c .before .before .before .before .before .next-block .ensures .within,
-  changed-next _ _ _ (c .before .before .before .before .before .before .before .before .before .pre .0) (c .before .before .before .before .before .next-block .ensures) (c .before .before .before .before .before .before .before .loop .inv .1) (solved-changed (c .before .before .before .solve-block .ensures)),
+  omega (arith, cover-first (c .before .before .before .before .before .before .before .next-block .ensures), c .before .before .before .before .before .before .before .next-block .ensures .within),
+  changed-over _ _ _ (filled-again _ _) (c .before .before .before .before .before .before .before .before .before .before .before .pre .0) (c .before .before .before .before .before .before .before .next-block .ensures) (c .before .before .before .before .before .before .before .before .before .loop .inv .1)
+      (written-changed (c .before .before .before .before .before .solve-block .ensures)),
 )
 
 same-length : tie.Need-same-length Inv-loop μ-loop
 same-length c = c .before .loop .inv .1 .size
 
 returns : tie.Need-returns Inv-loop μ-loop
-returns c = changed-solved (changed-all _ _ _ _ _ _ (omega arith) (c .before .loop .inv .1))
+returns c = changed-written (changed-all _ _ _ _ _ _ (omega arith) (c .before .loop .inv .1))
 
 pub solve-blocks-spec : {M : Type 1} → statement M
 solve-blocks-spec =
@@ -59,6 +64,7 @@ solve-blocks-spec =
     loop-holds
     next-block-requires
     solve-block-requires
+    sub-done
     add-done
     loop-less
     loop-again

@@ -3,7 +3,7 @@ use Prim.Native.Nat.{_-_, _≤_}
 use native.Mathlib.Omega.{arith}
 use Rattle.line.specs.Block.{front}
 use Rattle.line.proofs.Geometry.{inside-first}
-use Rattle.line.proofs.Parts.{Changed, changed-none, changed-next, changed-all, block-inside, inside-size}
+use Rattle.line.proofs.Parts.{Changed, changed-none, changed-next, changed-all, block-cover, cover-inside, inside-size}
 use Rattle.line.proofs.Correction.{Below, Mended, corrected-changed, changed-corrected}
 use Rattle.line.proofs.corrector.correct_blocks.Statement.{statement}
 use Rattle.line.proofs.corrector.correct_blocks.Tie as tie
@@ -18,26 +18,26 @@ abbrev μ-loop : tie.MeasureT-loop
 loop-holds : tie.Need-loop-holds Inv-loop μ-loop
 loop-holds c = (omega arith, changed-none _ _ _ _)
 
-next-block-requires : tie.Need-next-block-requires Inv-loop μ-loop
-next-block-requires c κs = omega (arith, inside-first _ _ (c .before .before .before .pre .1))
+block-after-requires : tie.Need-block-after-requires Inv-loop μ-loop
+block-after-requires c κs = omega (arith, inside-first _ _ (c .before .before .before .pre .1))
 
 correct-block-requires : tie.Need-correct-block-requires Inv-loop μ-loop
 correct-block-requires c κs = (
   c .before .before .before .before .before .pre .0,
-  block-inside _ _ _ _ (inside-size (c .before .before .before .before .before .pre .1) (c .before .before .before .loop .inv .1 .size)) (c .before .next-block .ensures),
-  c .before .next-block .ensures .few-lines,
+  cover-inside _ _ _ _ (inside-size (c .before .before .before .before .before .pre .1) (c .before .before .before .loop .inv .1 .size)) (block-cover (c .before .block-after .ensures)),
+  c .before .block-after .ensures .few-lines,
 )
 
 add-done : tie.Need-add-done Inv-loop μ-loop
-add-done c = omega (arith, inside-first _ _ (c .before .before .before .before .before .before .before .before .before .pre .1), c .before .before .before .before .before .next-block .ensures .within)
+add-done c = omega (arith, inside-first _ _ (c .before .before .before .before .before .before .before .before .before .pre .1), c .before .before .before .before .before .block-after .ensures .within)
 
 loop-less : tie.Need-loop-less Inv-loop μ-loop
-loop-less c = omega (arith, c .before .before .before .before .before .next-block .ensures .within, c .before .before .before .before .before .next-block .ensures .some-line)
+loop-less c = omega (arith, c .before .before .before .before .before .block-after .ensures .within, c .before .before .before .before .before .block-after .ensures .some-line)
 
 loop-again : tie.Need-loop-again Inv-loop μ-loop
 loop-again c = (
-  c .before .before .before .before .before .next-block .ensures .within,
-  changed-next _ _ _ (c .before .before .before .before .before .before .before .before .before .pre .1) (c .before .before .before .before .before .next-block .ensures) (c .before .before .before .before .before .before .before .loop .inv .1) (corrected-changed (c .before .before .before .correct-block .ensures)),
+  c .before .before .before .before .before .block-after .ensures .within,
+  changed-next _ _ _ (c .before .before .before .before .before .before .before .before .before .pre .1) (c .before .before .before .before .before .block-after .ensures) (c .before .before .before .before .before .before .before .loop .inv .1) (corrected-changed (c .before .before .before .correct-block .ensures)),
 )
 
 same-length : tie.Need-same-length Inv-loop μ-loop
@@ -53,7 +53,7 @@ correct-blocks-spec =
     Inv-loop
     μ-loop
     loop-holds
-    next-block-requires
+    block-after-requires
     correct-block-requires
     add-done
     loop-less

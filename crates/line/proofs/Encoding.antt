@@ -1,0 +1,326 @@
+-- Encoded lines: the data places are copied and summed place by place, both parity places are solved as erasures, strip after strip.
+use mathlib.Core.Path.{_≡_, refl, sym, ap, ap₂, subst, fun-ext, _∙_}
+use mathlib.Core.Bool.{true, false, false≢true, true≢false}
+use mathlib.Core.List.{List}
+use mathlib.Core.Logic.{_⊎_, _≢_, inl, inr, ⊎-elim}
+use Prim.Native.Nat.{ℕ, _+_, _-_, _*_, _≤_, _<_}
+use native.Mathlib.Decide.{ℕ-discrete, decLt}
+use native.Mathlib.Omega.{arith}
+use lib.ListN.{length, getD}
+use Rattle.field.specs.Field.{Primitive}
+use Rattle.line.specs.declared.Run.{Run}
+use Rattle.line.specs.declared.Erasures.{Erasures}
+use Rattle.line.specs.Line.{Codeword, syndrome0, syndrome1}
+use Rattle.line.specs.Run.{lineAt, Inside, Off, Written, Solved, erasuresAt, Feeds, Encoded, EncodeOutcome}
+use Rattle.line.specs.Block.{part, front, places, Syndromes, Combined, ToEnd, Window, Stored, Placed, Copied}
+use Rattle.line.proofs.Syndrome.{syndrome0-cong, syndrome1-cong}
+use Rattle.line.proofs.Geometry.{off-place}
+use Rattle.line.proofs.Runs.{written-solved, solved-codewords}
+use Rattle.line.proofs.Updated.{Updated}
+use Rattle.line.proofs.Solving.{combining-end}
+use Rattle.line.proofs.Parts.{off-first, off-next, part-inside, inside-size, line-part, off-part}
+
+-- ---- places copied
+
+-- bytes copied one by one
+pub copied-byte : (src : List ℕ) (from to t : ℕ) → getD src (from + t) 0 ≡ getD src (from + (to + t - to)) 0
+copied-byte src from to t = ap (λ (p : ℕ). getD src p 0) (omega arith)
+
+pub updated-copied :
+    (from to n m : ℕ) {src before after : List ℕ} →
+    Updated (λ p x. getD src (from + (p - to)) 0) to (to + m) before after → m ≡ n → Copied from to n src before after
+updated-copied from to n m {src} {before} {after} u e =
+    record {
+      size = u .size;
+      copied =
+          λ t l. u .done (to + t) (omega arith) (omega arith) ∙ sym (copied-byte src from to t);
+      kept =
+          λ p o. u .kept p
+          (⊎-elim (λ (x : p < to). inl x) (λ (x : to + n ≤ p). inr (omega arith)) o);
+    }
+
+-- The places from lo up to hi of each line of `to` hold those of the lines of `from` in ds.
+pub record Between (lo hi : ℕ) (from to : Run) (ds before after : List ℕ) : Type 0 where
+  pub size : length after ≡ length before
+  pub kept : (p : ℕ) → ((i : ℕ) → lo ≤ i → i < hi → Off to i p) → getD after p 0 ≡ getD before p 0
+  pub placed :
+      (t : ℕ) → t < to .width → (i : ℕ) → lo ≤ i → i < hi → lineAt after to t i ≡ lineAt ds from t i
+
+pub between-none :
+    (lo hi : ℕ) (from to : Run) (ds l : List ℕ) → hi ≤ lo → Between lo hi from to ds l l
+between-none lo hi from to ds l h =
+    record { size = refl; kept = λ p o. refl; placed = λ t a i b c. absurd (omega arith) }
+
+pub between-all :
+    {lo hi : ℕ} {from to : Run} {ds before after : List ℕ} → Between lo hi from to ds before after → lo ≡ 0 →
+    hi ≡ from .len → Placed from to ds before after
+between-all b el eh =
+    record {
+      size = b .size;
+      kept = λ p o. b .kept p (λ i l h. o i (omega arith));
+      placed = λ t l i h. b .placed t l i (omega arith) (omega arith);
+    }
+
+-- one more place, at either end
+pub between-more :
+    {lo hi : ℕ} {from to : Run} {ds before mid after : List ℕ} → Between lo hi from to ds before mid → (low high j : ℕ) →
+    Copied (from .first + from .stride * j) (to .first + to .stride * j) (to .width) ds mid after →
+    to .width ≤ to .stride → (low ≤ j) × (j < high) × (low ≤ lo) × (hi ≤ high) →
+    ((i : ℕ) → low ≤ i → i < high → i ≢ j → (lo ≤ i) × (i < hi)) → Between low high from to ds before after
+between-more {lo} {hi} {from} {to} {ds} {before} {mid} {after} b low high j c apart ends other =
+    record {
+      size = c .size ∙ b .size;
+      kept =
+          λ p o. c .kept p (unfold Off in o j (ends .0) (ends .1))
+          ∙ b .kept p (λ i l h. o i (omega arith) (omega arith));
+      placed =
+          λ t l i a h. elim (ℕ-discrete i j) [
+            | yes e ↦ rw e (unfold lineAt in c .copied t l)
+            | no ne ↦ same t l i ne ∙ b .placed t l i (other i a h ne .0) (other i a h ne .1)
+          ];
+    }
+  where
+    same : (t : ℕ) → t < to .width → (i : ℕ) → i ≢ j → lineAt after to t i ≡ lineAt mid to t i
+    same t l i ne = unfold lineAt Off in c .kept _ (off-place to i j t apart (omega arith) ne)
+
+-- ---- strips
+
+pub stored-copied :
+    {src at : ℕ} {c ds before after : List ℕ} (w : ℕ) → w ≡ 64 → Window ds src c → Stored at c before after →
+    Copied src at w ds before after
+stored-copied {src} {at} {c} {ds} {before} {after} w e window stored =
+    record {
+      size = stored .size;
+      copied = λ t l. stored .written t (omega arith) ∙ window .bytes t (omega arith);
+      kept =
+          λ p o. stored .kept p
+          (⊎-elim (λ (x : p < at). inl x) (λ (x : at + w ≤ p). inr (omega arith)) o);
+    }
+
+-- ---- codewords
+
+-- the parity places are the last two
+module _ (r : ℕ) {n : ℕ} {from to : Run} {e : Erasures} (ee : e ≡ erasuresAt r (to .len - 2) (to .len - 1))
+    (feeds : Feeds from to n) where
+  earlier-place : e .j ≡ from .len
+  unfolding erasuresAt
+  earlier-place = ap (λ (x : Erasures). x .j) ee ∙ omega (arith, feeds .places)
+
+  later-place : e .k ≡ from .len + 1
+  unfolding erasuresAt
+  later-place = ap (λ (x : Erasures). x .k) ee ∙ omega (arith, feeds .places)
+
+  pub parity-order : (e .j ≤ e .k) × (e .k < to .len)
+  parity-order = (omega (arith, earlier-place, later-place), omega (arith, later-place, feeds .places))
+
+  parity-end : ToEnd to e
+  parity-end =
+      record {
+        some-place = omega (arith, earlier-place, feeds .inside .some-place);
+        last = omega (arith, later-place, feeds .places);
+        two = omega (arith, earlier-place, feeds .places);
+      }
+
+  -- the syndromes of what is copied are those of the places before the parity
+  placed-syndromes :
+      {ds before mid s0 s1 : List ℕ} → Placed from to ds before mid → Syndromes r from ds s0 s1 →
+      Syndromes r (places to (e .j)) mid s0 s1
+  unfolding places lineAt
+  placed-syndromes {ds} {before} {mid} placed sy =
+      record {
+        first =
+            λ t h. sy .first t (omega (arith, feeds .lines))
+            ∙ syndrome0-cong (lineAt ds from t) (lineAt mid to t) (from .len) (λ i l. sym (placed .placed t h i l))
+            ∙ ap (syndrome0 (lineAt mid to t)) (sym earlier-place);
+        second =
+            λ t h. sy .second t (omega (arith, feeds .lines))
+            ∙ syndrome1-cong r (lineAt ds from t) (lineAt mid to t) (from .len) (λ i l. sym (placed .placed t h i l))
+            ∙ ap (syndrome1 r (lineAt mid to t)) (sym earlier-place);
+      }
+
+  pub combined-written :
+      {ds before mid after s0 s1 : List ℕ} → Placed from to ds before mid × Syndromes r from ds s0 s1 →
+      Combined r to e s0 s1 mid after → Written r to e mid after
+  combined-written {ds} {before} {mid} {after} {s0} {s1} h co =
+      combining-end (parity-order .0) parity-end refl
+      (record { s0 = s0; s1 = s1; syndromes = placed-syndromes (h .0) (h .1); combined = co })
+
+-- data places that are copied, and parity that is solved behind them
+pub written-encoded :
+    {r n : ℕ} {from to : Run} {e : Erasures} {ds before mid after : List ℕ} → Primitive r → Inside to (length before) →
+    Feeds from to n → e ≡ erasuresAt r (to .len - 2) (to .len - 1) → Placed from to ds before mid →
+    Written r to e mid after → Encoded r from to ds before after
+written-encoded {r} {n} {from} {to} {e} {ds} {before} {mid} {after} p inside feeds ee placed w =
+    record {
+      size = solved .size ∙ placed .size;
+      kept =
+          λ q o. solved .kept q (o j (omega (arith, feeds .places))) (o k (omega (arith, feeds .places)))
+          ∙ placed .kept q (λ i l. o i (omega (arith, feeds .places)));
+      placed = λ t h i l. same t h i l ∙ placed .placed t h i l;
+      codewords =
+          solved-codewords r to j k mid after p (inside-size inside (placed .size)) solved (omega (arith, feeds .places))
+          (omega (arith, feeds .places));
+    }
+  where
+    j : ℕ
+    j = to .len - 2
+
+    k : ℕ
+    k = to .len - 1
+
+    solved : Solved r to j k mid after
+    solved = written-solved (subst (λ (x : Erasures). Written r to x mid after) ee w)
+
+    same : (t : ℕ) → t < to .width → (i : ℕ) → i < from .len → lineAt after to t i ≡ lineAt mid to t i
+    same t h i l =
+        unfold lineAt in
+        solved .kept _
+        (off-place to i j t (inside .apart) (omega (arith, inside .apart)) (omega (arith, feeds .places)))
+        (off-place to i k t (inside .apart) (omega (arith, inside .apart)) (omega (arith, feeds .places)))
+
+-- the parity places as the code names them: the last place, and the one before it
+pub parity-erasures :
+    {q r : ℕ} {e : Erasures} (n : ℕ) → q ≡ r → e ≡ erasuresAt r (n - 1 - 1) (n - 1) → e ≡ erasuresAt q (n - 2) (n - 1)
+parity-erasures n eq ee = ee ∙ ap₂ (λ (a b : ℕ). erasuresAt a b (n - 1)) (sym eq) (omega arith)
+
+-- ---- strip after strip
+
+feeds-part :
+    (from to : Run) (n a w : ℕ) → Feeds from to n → a + w ≤ to .width → Feeds (part from a w) (part to a w) n
+unfolding part
+feeds-part from to n a w h within =
+    record {
+      inside = part-inside from n a w (h .inside) (omega (arith, h .lines));
+      places = h .places;
+      lines = refl;
+    }
+
+-- a strip of 64 lines, as runs of their own
+module _ (from to : Run) (a : ℕ) {source target : Run} (es : source ≡ part from a 64) (et : target ≡ part to a 64)
+    (within : a + 64 ≤ to .width) where
+  pub strip-inside : {n : ℕ} → Inside to n → Inside target n
+  strip-inside {n} h = subst (λ (x : Run). Inside x n) (sym et) (part-inside to n a 64 h within)
+
+  pub strip-feeds : {n : ℕ} → Feeds from to n → Feeds source target n
+  strip-feeds {n} h =
+      subst (λ (x : Run). Feeds x target n) (sym es)
+      (subst (λ (x : Run). Feeds (part from a 64) x n) (sym et) (feeds-part from to n a 64 h within))
+
+  pub strip-width : target .width ≡ 64
+  unfolding part
+  strip-width = ap (λ (x : Run). x .width) et
+
+  pub strip-places : target .len ≡ to .len
+  unfolding part
+  strip-places = ap (λ (x : Run). x .len) et
+
+  pub strip-encoded :
+      {r n : ℕ} {e : Erasures} {ds before mid after s0 s1 : List ℕ} → Primitive r → Inside to (length before) →
+      Feeds from to n → e ≡ erasuresAt r (to .len - 2) (to .len - 1) →
+      Placed source target ds before mid × Syndromes r source ds s0 s1 → Combined r target e s0 s1 mid after →
+      Encoded r (part from a 64) (part to a 64) ds before after
+  strip-encoded {r} {n} {e} {ds} {before} {mid} {after} p inside feeds ee placed co =
+      subst (λ (x : Run). Encoded r x (part to a 64) ds before after) es
+      (subst (λ (x : Run). Encoded r source x ds before after) et
+      (written-encoded p (strip-inside inside) (strip-feeds feeds) own (placed .0)
+      (combined-written r own (strip-feeds feeds) placed co)))
+    where
+      own : e ≡ erasuresAt r (target .len - 2) (target .len - 1)
+      own = rw strip-places ee
+
+pub encoded-none :
+    (r : ℕ) (from to : Run) (ds l : List ℕ) → Encoded r (front from 0) (front to 0) ds l l
+unfolding front
+encoded-none r from to ds l =
+    record {
+      size = refl;
+      kept = λ p o. refl;
+      placed = λ t h. absurd (omega arith);
+      codewords = λ t h. absurd (omega arith);
+    }
+
+pub encoded-all :
+    {r a : ℕ} {from to : Run} {ds before after : List ℕ} → Encoded r (front from a) (front to a) ds before after →
+    a ≡ to .width → Encoded r from to ds before after
+unfolding front lineAt Off
+encoded-all h e =
+    record {
+      size = h .size;
+      kept = λ p o. h .kept p (λ i l. rw e (o i l));
+      placed = λ t l. h .placed t (omega arith);
+      codewords = λ t l. h .codewords t (omega arith);
+    }
+
+part-line :
+    (s : List ℕ) (run : Run) (b w t : ℕ) → b ≤ t → lineAt s (part run b w) (t - b) ≡ lineAt s run t
+part-line s run b w t h = line-part s run b w (t - b) ∙ ap (lineAt s run) (omega arith)
+
+-- The strip from line b on is encoded after the first a lines, whatever of these it reaches back into.
+module _ {r : ℕ} (from to : Run) (a b w : ℕ) {ds before mid after : List ℕ}
+    (one : Encoded r (front from a) (front to a) ds before mid)
+    (two : Encoded r (part from b w) (part to b w) ds mid after) (reaches : b ≤ a) (covers : a ≤ b + w)
+    (apart : b + w ≤ to .stride) where
+  before-strip : (t : ℕ) → t < b → lineAt after to t ≡ lineAt mid to t
+  unfolding lineAt part
+  before-strip t h = fun-ext (λ i. two .kept _ (λ k q. off-part to b w apart i k t (omega arith) (inl h)))
+
+  own-placed :
+      (t : ℕ) → t < w → (i : ℕ) → i < from .len →
+      lineAt after (part to b w) t i ≡ lineAt ds (part from b w) t i
+  unfolding part
+  own-placed = two .placed
+
+  strip-placed :
+      (t : ℕ) → t < b + w → (i : ℕ) → i < from .len → lineAt after to t i ≡ lineAt ds from t i
+  strip-placed t h i l =
+      elim (decLt t b) [
+        | yes m ↦ ap (λ (c : ℕ → ℕ). c i) (before-strip t m) ∙ (unfold front lineAt in one .placed t (omega arith) i l)
+        | no m ↦
+            ap (λ (c : ℕ → ℕ). c i) (sym (part-line after to b w t (omega arith)))
+            ∙ own-placed (t - b) (omega arith) i l
+            ∙ ap (λ (c : ℕ → ℕ). c i) (part-line ds from b w t (omega arith))
+      ]
+
+  strip-codewords : (t : ℕ) → t < b + w → Codeword r (lineAt after to t) (to .len)
+  strip-codewords t h =
+      elim (decLt t b) [
+        | yes m ↦ subst (λ (c : ℕ → ℕ). Codeword r c (to .len)) (sym (before-strip t m)) (unfold front lineAt in one .codewords t (omega arith))
+        | no m ↦
+            subst (λ (c : ℕ → ℕ). Codeword r c (to .len)) (part-line after to b w t (omega arith))
+            (unfold part in two .codewords (t - b) (omega arith))
+      ]
+
+  pub encoded-strip : Encoded r (front from (b + w)) (front to (b + w)) ds before after
+  unfolding front lineAt part
+  encoded-strip =
+      record {
+        size = two .size ∙ one .size;
+        kept =
+            λ p o. two .kept p (λ i l. off-next to b w i p (o i l)) ∙ one .kept p (λ i l. off-first to a (b + w) i p covers (o i l));
+        placed = strip-placed;
+        codewords = strip-codewords;
+      }
+
+-- ---- the outcome of the public call
+
+module _ {r : ℕ} (from to : Run) (ds : List ℕ) where
+  pub encode-refused :
+      (l : List ℕ) → (Inside to (length l) → Feeds from to (length ds) → ⊥) → EncodeOutcome r from to ds l l false
+  encode-refused l never =
+      record {
+        yes-when = λ h f. absurd (never h f);
+        yes-then = λ e. absurd (false≢true e);
+        written = λ e. absurd (false≢true e);
+        kept-else = λ e. refl;
+      }
+
+  pub encode-done :
+      {q : ℕ} {before after : List ℕ} → q ≡ r → Encoded q from to ds before after → Inside to (length before) →
+      Feeds from to (length ds) → EncodeOutcome r from to ds before after true
+  encode-done {q} {before} {after} e s h f =
+      record {
+        yes-when = λ h' f'. refl;
+        yes-then = λ y. (h, f);
+        written = λ y. subst (λ (x : ℕ). Encoded x from to ds before after) e s;
+        kept-else = λ y. absurd (true≢false y);
+      }

@@ -1,0 +1,101 @@
+-- `line::encoder::place_strip` copies the data places of 64 lines from the last to the first, and takes Horner's step by each.
+use mathlib.Core.Path.{_≡_, refl}
+use Prim.Native.Nat.{ℕ, _+_, _-_, _*_, _≤_, _<_}
+use native.Mathlib.Omega.{arith}
+use lib.ListN.{length}
+use denote.Ref.{now}
+use Rattle.line.specs.Block.{Tails}
+use Rattle.line.proofs.Encoding.{Between, between-none, between-more, between-all, stored-copied}
+use Rattle.line.proofs.Tails.{tails-none, tails-at, tails-one, tails-whole, step-one}
+use Rattle.line.proofs.encoder.place_strip.Statement.{statement}
+use Rattle.line.proofs.encoder.place_strip.Tie as tie
+
+abbrev Inv-loop : tie.InvT-loop
+Inv-loop «data» s₀ s0₀ s1₀ reduction from to left₀ s s0 s1 left =
+    (left ≤ from .len) × Between left (from .len) from to «data» s₀ s × Tails 64 reduction from left «data» s0 s1
+
+abbrev μ-loop : tie.MeasureT-loop
+μ-loop «data» s₀ s0₀ s1₀ reduction from to left₀ s s0 s1 left = left
+
+-- the bytes of a data place lie inside both lists
+from-strip :
+    (c : tie.Start Inv-loop μ-loop) (i : ℕ) → i < c .args .from .len →
+    c .args .from .first + c .args .from .stride * i + 64 ≤ length (now (c .args .«data»))
+from-strip c i h = omega (arith, c .pre .1 .inside .fits i h, c .pre .1 .lines, c .pre .2)
+
+to-strip :
+    (c : tie.Start Inv-loop μ-loop) (i : ℕ) → i < c .args .from .len →
+    c .args .to .first + c .args .to .stride * i + 64 ≤ length (now (c .args .s))
+to-strip c i h = omega (arith, c .pre .0 .fits i (omega (arith, c .pre .1 .places)), c .pre .2)
+
+loop-holds : tie.Need-loop-holds Inv-loop μ-loop
+loop-holds c = (
+  omega arith,
+  between-none _ _ _ _ _ _ (omega arith),
+  tails-none 64 _ _ _ _ _ (omega (arith, c .before .before .pre .1 .lines, c .before .before .pre .2)) (c .before .before .pre .3) (c .before .before .pre .4),
+)
+
+sub-left : tie.Need-sub-left Inv-loop μ-loop
+sub-left c = omega arith
+
+mul-load : tie.Need-mul-load Inv-loop μ-loop
+mul-load c = omega (arith, from-strip (c .before .before .before .before .before) (c .before .before .loop .left - 1) (omega arith))
+
+add-load : tie.Need-add-load Inv-loop μ-loop
+add-load c = omega (arith, from-strip (c .before .before .before .before .before .before) (c .before .before .before .loop .left - 1) (omega arith))
+
+load-requires : tie.Need-load-requires Inv-loop μ-loop
+load-requires c κs = from-strip (c .before .before .before .before .before .before) (c .before .before .before .loop .left - 1) (omega arith)
+
+mul-store : tie.Need-mul-store Inv-loop μ-loop
+mul-store c = omega (arith, to-strip (c .before .before .before .before .before .before .before .before .before) (c .before .before .before .before .before .before .loop .left - 1) (omega arith))
+
+add-store : tie.Need-add-store Inv-loop μ-loop
+add-store c = omega (arith, to-strip (c .before .before .before .before .before .before .before .before .before .before) (c .before .before .before .before .before .before .before .loop .left - 1) (omega arith))
+
+store-requires : tie.Need-store-requires Inv-loop μ-loop
+store-requires c κs = omega (arith, to-strip (c .before .before .before .before .before .before .before .before .before .before) (c .before .before .before .before .before .before .before .loop .left - 1) (omega arith), c .before .before .before .before .before .before .before .loop .inv .1 .size)
+
+step-requires : tie.Need-step-requires Inv-loop μ-loop
+step-requires c κs = let sums = c .before .before .before .before .before .before .before .before .before .before .before .before .loop .inv .2 in (sums .size0, sums .size1)
+
+loop-less : tie.Need-loop-less Inv-loop μ-loop
+loop-less c = omega arith
+
+loop-again : tie.Need-loop-again Inv-loop μ-loop
+loop-again c =
+    let start = c .before .before .before .before .before .before .before .before .before .before .before .before .before .before .before .before in
+    let turn = c .before .before .before .before .before .before .before .before .before .before .before .before .before .loop in
+    let some = c .before .before .before .before .before .before .before .before .before .before .before .before .loop-test .taken in
+    let wide : start .args .to .width ≡ 64 = start .pre .2 in
+    let window = c .before .before .before .before .before .before .before .before .before .load .ensures in (
+      omega arith,
+      between-more (turn .inv .1) _ _ (turn .left - 1) (stored-copied _ wide window (c .before .before .before .before .before .store .ensures)) (start .pre .0 .apart) (omega arith) (omega arith),
+      tails-one (start .fits .reduction .fits) (λ p. c .before .before .before .before .before .before .before .before .before .before .before .before .before .before .before .shared-slice-known .given p .fits) (turn .inv .2) (step-one (omega (arith, start .pre .1 .lines)) window (c .step .ensures)) (omega arith) (omega arith),
+    )
+
+same-length : tie.Need-same-length Inv-loop μ-loop
+same-length c = c .before .loop .inv .1 .size
+
+returns : tie.Need-returns Inv-loop μ-loop
+returns c = (between-all (c .before .loop .inv .1) (omega arith) refl, tails-whole _ _ _ _ _ (tails-at _ _ (omega arith) (c .before .loop .inv .2)))
+
+pub place-strip-spec : {M : Type 1} → statement M
+place-strip-spec =
+    tie.close
+    (tie.spec
+    Inv-loop
+    μ-loop
+    loop-holds
+    sub-left
+    mul-load
+    add-load
+    load-requires
+    mul-store
+    add-store
+    store-requires
+    step-requires
+    loop-less
+    loop-again
+    same-length
+    returns)

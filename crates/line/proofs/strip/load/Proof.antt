@@ -1,0 +1,62 @@
+-- `line::strip::load` takes 64 bytes out of a slice.
+use mathlib.Core.Path.{_≡_, refl, _∙_}
+use Prim.Native.Nat.{_+_, _-_, _≤_}
+use native.Mathlib.Omega.{arith}
+use lib.ListN.{length, getD}
+use Rattle.line.proofs.Updated.{Updated, updated-none, updated-more}
+use Rattle.line.proofs.strip.load.Statement.{statement}
+use Rattle.line.proofs.strip.load.Tie as tie
+
+abbrev Inv-loop : tie.InvT-loop
+Inv-loop s at c₀ t₀ c t =
+    (t ≤ 64) × (length c₀ ≡ 64) × Updated (λ p x. getD s (at + p) 0) 0 t c₀ c
+
+abbrev μ-loop : tie.MeasureT-loop
+μ-loop s at c₀ t₀ c t = 64 - t
+
+loop-holds : tie.Need-loop-holds Inv-loop μ-loop
+loop-holds c = (omega arith, refl, updated-none _ 0 0 _ refl)
+
+add-c : tie.Need-add-c Inv-loop μ-loop
+add-c c = omega arith
+
+shared-slice-read-c : tie.Need-shared-slice-read-c Inv-loop μ-loop
+shared-slice-read-c c = omega arith
+
+array-write-c : tie.Need-array-write-c Inv-loop μ-loop
+array-write-c c = omega arith
+
+add-t : tie.Need-add-t Inv-loop μ-loop
+add-t c = omega arith
+
+loop-less : tie.Need-loop-less Inv-loop μ-loop
+loop-less c = omega arith
+
+loop-again : tie.Need-loop-again Inv-loop μ-loop
+loop-again c = (
+  omega arith,
+  c .before .before .loop .inv .1,
+  updated-more (c .before .before .loop .inv .2) _ _ (omega arith) (omega arith) refl refl,
+)
+
+returns : tie.Need-returns Inv-loop μ-loop
+returns c =
+    record {
+      size = c .before .loop .inv .2 .size ∙ c .before .loop .inv .1;
+      bytes = λ t h. c .before .loop .inv .2 .done t (omega arith) (omega arith);
+    }
+
+pub load-spec : {M : Type 1} → statement M
+load-spec =
+    tie.close
+    (tie.spec
+    Inv-loop
+    μ-loop
+    loop-holds
+    add-c
+    shared-slice-read-c
+    array-write-c
+    add-t
+    loop-less
+    loop-again
+    returns)

@@ -1,0 +1,20 @@
+-- `line::wide::one_below` takes Horner's step by a place, where the lines have it.
+use native.Mathlib.Omega.{arith}
+use Rattle.line.proofs.Tails.{tails-at, tails-one}
+use borrow.Author.Needs.{needs}
+use Rattle.line.proofs.wide.one_below.Statement.{statement}
+use Rattle.line.proofs.wide.one_below.Tie as tie
+
+one-requires : tie.Need-one-requires
+one-requires c κs = search needs
+
+returns : tie.Need-returns
+returns c =
+    tails-at _ _ (omega arith)
+    (tails-one (c .before .before .before .before .before .before .fits .reduction .fits) (λ p. c .before .before .before .before .before .shared-slice-known .given p .fits) (c .before .before .before .before .before .before .pre .2) (c .one .ensures) (omega arith) (omega arith))
+
+returns-2 : tie.Need-returns-2
+returns-2 c = tails-at _ _ (omega arith) (c .before .before .before .pre .2)
+
+pub one-below-spec : {M : Type 1} → statement M
+one-below-spec = tie.close (tie.spec one-requires returns returns-2)

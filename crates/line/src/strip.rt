@@ -1,0 +1,141 @@
+// Strips of 64 neighbouring lines. Their bytes, 64 for each place, are taken and given back by value, so that the compiler sees that
+// nothing else can change them and keeps them in registers from the first place to the last.
+use crate::Erasures;
+use crate::Run;
+ghost use mathlib.Core.Path.{_≡_};
+ghost use Prim.Native.Nat.{ℕ, _+_, _<_, _≤_};
+ghost use lib.ListN.{length, getD, replicate};
+ghost use Rattle.field.specs.Field.{add, mul};
+ghost use Rattle.line.specs.Line.{Codeword};
+ghost use Rattle.line.specs.Run.{Inside, lineAt};
+ghost use Rattle.line.specs.Block.{Decides, Window, Stored, Step, Syndromes, Combined, Combining, AllZero};
+
+// Writes both erasures of each line of `run` from the syndromes of the lines of `read`.
+pub(crate) fn solve(s: &mut [u8], reduction: u8, read: Run, run: Run, e: Erasures)
+    requires { ⌜ (Inside read (length (now s))) × (read .width ≡ 64) × (Inside run (length (now s))) × (run .width ≡ 64) × (e .j ≤ e .k) × (e .k < run .len) ⌝ }
+    ensures { λ r. ⌜ Combining reduction read run e (now (s .entry)) (now (s .exit)) ⌝ }
+{
+    let mut s0 = [0u8; 64];
+    let mut s1 = [0u8; 64];
+    syndromes(s, &mut s0, &mut s1, reduction, read);
+    combine(s, s0, s1, reduction, run, e);
+}
+
+// Whether each line is a codeword.
+pub(crate) fn codewords(s: &[u8], reduction: u8, run: Run) -> bool
+    requires { ⌜ (Inside run (length (now s))) × (run .width ≡ 64) ⌝ }
+    ensures { λ r. ⌜ Decides ((t : ℕ) → t < run .width → Codeword reduction (lineAt (now (s .entry)) run t) (run .len)) r ⌝ }
+{
+    let mut s0 = [0u8; 64];
+    let mut s1 = [0u8; 64];
+    syndromes(s, &mut s0, &mut s1, reduction, run);
+    all_zero(s0, s1)
+}
+
+// Both syndromes of each line, by Horner's rule from the far end; s0 and s1 come in as zeros.
+fn syndromes(s: &[u8], s0: &mut [u8; 64], s1: &mut [u8; 64], reduction: u8, run: Run)
+    requires { ⌜ (Inside run (length (now s))) × (run .width ≡ 64) × (now s0 ≡ replicate 64 0) × (now s1 ≡ replicate 64 0) ⌝ }
+    ensures { λ r. ⌜ Syndromes reduction run (now (s .entry)) (now (s0 .exit)) (now (s1 .exit)) ⌝ }
+{
+    let mut left = run.len;
+    while 0 < left {
+        left -= 1;
+        let c = load(s, run.first + run.stride * left);
+        step(s0, s1, reduction, c);
+    }
+}
+
+// The 64 bytes from `at` on.
+pub(crate) fn load(s: &[u8], at: usize) -> [u8; 64]
+    requires { ⌜ at + 64 ≤ length (now s) ⌝ }
+    ensures { λ r. ⌜ Window (now (s .entry)) at r ⌝ }
+{
+    let mut c = [0u8; 64];
+    let mut t = 0;
+    while t < 64 {
+        c[t] = s[at + t];
+        t += 1;
+    }
+    c
+}
+
+// Writes 64 bytes from `at` on.
+pub(crate) fn store(s: &mut [u8], at: usize, c: [u8; 64])
+    requires { ⌜ at + 64 ≤ length (now s) ⌝ }
+    ensures { λ r. ⌜ Stored at c (now (s .entry)) (now (s .exit)) ⌝ }
+{
+    let mut t = 0;
+    while t < 64 {
+        s[at + t] = c[t];
+        t += 1;
+    }
+}
+
+// One of Horner's steps, by a place whose bytes are c.
+pub(crate) fn step(s0: &mut [u8; 64], s1: &mut [u8; 64], reduction: u8, c: [u8; 64])
+    requires { ⌜ (length (now s0) ≡ 64) × (length (now s1) ≡ 64) ⌝ }
+    ensures { λ r. ⌜ Step reduction c (now (s0 .entry)) (now (s1 .entry)) (now (s0 .exit)) (now (s1 .exit)) ⌝ }
+{
+    let mut t = 0;
+    while t < 64 {
+        s0[t] = s0[t] ^ c[t];
+        s1[t] = field::xtime(reduction, s1[t]) ^ c[t];
+        t += 1;
+    }
+}
+
+// Writes the bytes at both erasures of each line; the later one last, so that it stands where both are one.
+pub(crate) fn combine(
+    s: &mut [u8],
+    s0: [u8; 64],
+    s1: [u8; 64],
+    reduction: u8,
+    run: Run,
+    e: Erasures,
+)
+    requires { ⌜ (Inside run (length (now s))) × (run .width ≡ 64) × (e .j ≤ e .k) × (e .k < run .len) ⌝ }
+    ensures { λ r. ⌜ Combined reduction run e s0 s1 (now (s .entry)) (now (s .exit)) ⌝ }
+{
+    let y = products(s0, s1, reduction, e.b, e.d);
+    store(s, run.first + run.stride * e.j, sums(s0, y));
+    store(s, run.first + run.stride * e.k, y);
+}
+
+// The byte at the later erasure of each line.
+fn products(s0: [u8; 64], s1: [u8; 64], reduction: u8, b: u8, d: u8) -> [u8; 64]
+    ensures { λ r. ⌜ (length r ≡ 64) × ((t : ℕ) → t < 64 → getD r t 0 ≡ add (mul reduction (getD s0 t 0) b) (mul reduction (getD s1 t 0) d)) ⌝ }
+{
+    let mut y = [0u8; 64];
+    let mut t = 0;
+    while t < 64 {
+        y[t] = field::dot(reduction, s0[t], b, s1[t], d);
+        t += 1;
+    }
+    y
+}
+
+// The sums of the bytes of two arrays.
+fn sums(a: [u8; 64], b: [u8; 64]) -> [u8; 64]
+    ensures { λ r. ⌜ (length r ≡ 64) × ((t : ℕ) → t < 64 → getD r t 0 ≡ add (getD a t 0) (getD b t 0)) ⌝ }
+{
+    let mut c = [0u8; 64];
+    let mut t = 0;
+    while t < 64 {
+        c[t] = a[t] ^ b[t];
+        t += 1;
+    }
+    c
+}
+
+// Whether both syndromes of each line are 0: the bytes are joined by or, so that no line costs a branch.
+fn all_zero(s0: [u8; 64], s1: [u8; 64]) -> bool
+    ensures { λ r. ⌜ Decides (AllZero 64 s0 s1) r ⌝ }
+{
+    let mut any: u8 = 0;
+    let mut t = 0;
+    while t < 64 {
+        any = any | s0[t] | s1[t];
+        t += 1;
+    }
+    any == 0
+}
