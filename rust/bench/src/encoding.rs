@@ -1,4 +1,4 @@
-//! Encoding against memcpy and against ISA-L.
+//! Encoding against memcpy, ISA-L and GF-Complete.
 
 use std::hint::black_box;
 use std::time::Duration;
@@ -6,8 +6,10 @@ use std::time::Duration;
 use jibrufath::{Shape, encode, read_data};
 use reference::random::Random;
 
-use crate::isal::{Isal, Order};
-use crate::{REFERENCE_SET, clock, least_times};
+use crate::cube_encoder::{CubeEncoder, Order};
+use crate::gf_complete::{ALIGNMENT, GfLine};
+use crate::isal::IsalLine;
+use crate::{REFERENCE_SET, Ratio, clock, least_times};
 
 /// The reference set, large cubes of other widths, and a small cube of wide cells.
 const SHAPES: [Shape; 6] = [
@@ -23,10 +25,11 @@ const SHAPES: [Shape; 6] = [
 const HEADER: &str = "\
 Encode, from a data string to the whole cube. ISA-L: ec_encode_data in its own field, two parity packets a line.
 Plain: axis by axis. Best: plane by plane, as the last column says. In place: best, with the data already in the cube.
+GF-Complete: the same code and order, a product of a region for each packet; it takes W in multiples of 16 only.
 
 | shape | W | memcpy | ours / memcpy | ISA-L best / memcpy | ISA-L plain / memcpy | ISA-L in place / memcpy \
-| ours / ISA-L best | ISA-L's best order |
-|---|---|---|---|---|---|---|---|---|";
+| GF-Complete / memcpy | ours / ISA-L best | ISA-L's best order |
+|---|---|---|---|---|---|---|---|---|---|";
 
 /// One shape, with all memory that its encoders need.
 struct Encoding {
@@ -34,33 +37,30 @@ struct Encoding {
     data: Vec<u8>,
     cube: Vec<u8>,
     copy: Vec<u8>,
-    isal: Isal,
+    isal: CubeEncoder<IsalLine>,
+    gf_complete: CubeEncoder<GfLine>,
     best: Order,
     /// Repetitions that make one measurement long enough.
     repeat: usize,
 }
 
-pub fn table() {
+/// Prints the table, and gives the ratios of the reference set.
+pub fn table() -> Vec<Ratio> {
     println!("{HEADER}");
+    let mut rows = Vec::new();
     for shape in SHAPES {
         let mut state = Encoding::new(shape);
         state.best = state.best_order();
-        let least = least_times(
-            &mut state,
-            |_| {},
-            &[
-                &|s| s.repeat(|s| black_box(&mut s.copy).copy_from_slice(&s.cube)),
-                &|s| s.repeat(|s| encode(s.shape, &s.data, &mut s.cube).expect("encodes")),
-                &|s| s.repeat(|s| s.isal.encode(&s.data, &mut s.cube, s.best)),
-                &|s| s.repeat(|s| s.isal.encode(&s.data, &mut s.cube, Order::Plain)),
-                &|s| s.repeat(|s| s.isal.encode_in_place(&mut s.cube, s.best)),
-            ],
-        );
+        let least = state.least_times();
         state.check();
-        let Shape { l1, l2, l3, w } = shape;
         let over = |a: usize, b: usize| least[a].as_secs_f64() / least[b].as_secs_f64();
+        let gf_complete = match state.aligned() {
+            true => format!("{:.2}", over(5, 0)),
+            false => "-".into(),
+        };
+        let Shape { l1, l2, l3, w } = shape;
         println!(
-            "| {l1} × {l2} × {l3} | {w} | {:.2} ms | {:.2} | {:.2} | {:.2} | {:.2} | {:.2} | {} |",
+            "| {l1} × {l2} × {l3} | {w} | {:.2} ms | {:.2} | {:.2} | {:.2} | {:.2} | {gf_complete} | {:.2} | {} |",
             least[0].as_secs_f64() * 1e3 / state.repeat as f64,
             over(1, 0),
             over(2, 0),
@@ -69,7 +69,12 @@ pub fn table() {
             over(1, 2),
             state.best,
         );
+        if shape == REFERENCE_SET {
+            rows.push(Ratio::new("encode", over(1, 0)));
+            rows.push(Ratio::new("encode with ISA-L, best order", over(2, 0)));
+        }
     }
+    rows
 }
 
 impl Encoding {
@@ -81,9 +86,38 @@ impl Encoding {
             data: Random::new(5).bytes(data_bytes),
             cube: vec![1; bytes],
             copy: vec![2; bytes],
-            isal: Isal::new(shape),
+            isal: CubeEncoder::new(shape),
+            gf_complete: CubeEncoder::new(shape),
             best: Order::Plain,
             repeat: 4_000_000usize.div_ceil(bytes),
+        }
+    }
+
+    /// The least times of memcpy, ours, ISA-L in its best and in its plain order and in place, and GF-Complete.
+    fn least_times(&mut self) -> Vec<Duration> {
+        least_times(
+            self,
+            |_| {},
+            &[
+                &|s| s.repeat(|s| black_box(&mut s.copy).copy_from_slice(&s.cube)),
+                &|s| s.repeat(|s| encode(s.shape, &s.data, &mut s.cube).expect("encodes")),
+                &|s| s.repeat(|s| s.isal.encode(&s.data, &mut s.cube, s.best)),
+                &|s| s.repeat(|s| s.isal.encode(&s.data, &mut s.cube, Order::Plain)),
+                &|s| s.repeat(|s| s.isal.encode_in_place(&mut s.cube, s.best)),
+                &|s| s.repeat(Encoding::encode_by_gf_complete),
+            ],
+        )
+    }
+
+    /// Whether GF-Complete takes the packets as they stand.
+    fn aligned(&self) -> bool {
+        self.shape.w.is_multiple_of(ALIGNMENT)
+    }
+
+    fn encode_by_gf_complete(&mut self) {
+        if self.aligned() {
+            self.gf_complete
+                .encode(&self.data, &mut self.cube, self.best);
         }
     }
 
@@ -123,7 +157,7 @@ impl Encoding {
         best.expect("there is an order").1
     }
 
-    /// Fails unless both encoders leave a code cube of their own field with the data.
+    /// Fails unless the encoders leave a code cube of their own field with the data.
     fn check(&mut self) {
         let Shape { l1, l2, l3, w } = self.shape;
         encode(self.shape, &self.data, &mut self.cube).expect("encodes");
@@ -142,6 +176,9 @@ impl Encoding {
         self.copy.fill(4);
         self.isal.encode(&self.data, &mut self.copy, Order::Plain);
         assert!(self.cube == self.copy, "the orders of ISA-L differ");
+
+        self.encode_by_gf_complete();
+        assert!(self.cube == self.copy, "GF-Complete differs from ISA-L");
     }
 
     fn check_data(&self) {

@@ -1,14 +1,22 @@
-//! The benchmark: encoding, filling, mending and receiving against memcpy of the cube, and encoding against ISA-L.
+//! The benchmark: encoding, filling, mending and receiving against memcpy of the cube, and encoding against ISA-L and GF-Complete.
 //!
 //! All times of one table row come from the same run, in rounds that take every candidate in turn; each is the minimum of its
-//! rounds, in processor time of the thread. Buffers are allocated and touched before any timing.
+//! rounds, in processor time of the thread. Buffers are allocated and touched before any timing. `bench --svg PATH` also draws
+//! the tables.
 
 mod clock;
+mod cube_encoder;
 mod encoding;
+mod gf_complete;
+mod growth;
 mod isal;
+mod plot;
 mod receiving;
 mod repair;
 
+use std::env;
+use std::error::Error;
+use std::fs;
 use std::time::Duration;
 
 use jibrufath::Shape;
@@ -16,19 +24,53 @@ use jibrufath::Shape;
 /// The set of source document 004.
 const REFERENCE_SET: Shape = Shape::new(69, 69, 25, 397);
 
-const ROUNDS: usize = 20;
+const ROUNDS: usize = 60;
 
-fn main() {
+/// How long a piece of work takes, over memcpy of the cube.
+struct Ratio {
+    what: String,
+    ratio: f64,
+}
+
+fn main() -> Result<(), Box<dyn Error>> {
+    let words: Vec<String> = env::args().skip(1).collect();
+    let path = match &words[..] {
+        [] => None,
+        [option, path] if option == "--svg" => Some(path),
+        _ => return Err("usage: bench [--svg PATH]".into()),
+    };
     println!(
         "Thread processor time, minimum of {ROUNDS} interleaved rounds; ratios are to memcpy of the cube in the same rounds."
     );
     println!("Buffers are allocated and touched before timing.");
     println!();
-    encoding::table();
+    let mut ratios = encoding::table();
     println!();
-    repair::table();
+    ratios.extend(repair::table()?);
     println!();
-    receiving::table();
+    ratios.extend(receiving::table()?);
+    println!();
+    let sizes = growth::by_size()?;
+    println!();
+    let shares = growth::by_share_lost()?;
+    if let Some(path) = path {
+        fs::write(path, plot::draw(&ratios, &sizes, &shares))?;
+    }
+    Ok(())
+}
+
+impl Ratio {
+    fn new(what: &str, ratio: f64) -> Ratio {
+        let what = what.into();
+        Ratio { what, ratio }
+    }
+
+    /// Prints how long the second of two pieces of work takes, over the first.
+    fn print(what: &str, least: &[Duration]) -> Ratio {
+        let ratio = least[1].as_secs_f64() / least[0].as_secs_f64();
+        println!("| {what} | {ratio:.2} |");
+        Ratio::new(what, ratio)
+    }
 }
 
 /// Calls each of the pieces of work in turn, round by round, and gives the least time of each. `before` is not timed.

@@ -5,14 +5,13 @@ use std::hint::black_box;
 use jibrufath::{Outcome, Refusal, receive_pack, write};
 use reference::random::Random;
 
-use crate::repair::print_row;
-use crate::{REFERENCE_SET, least_times};
+use crate::{REFERENCE_SET, Ratio, least_times};
 
 /// What is said before the table.
 const HEADER: &str = "\
 Receiving of 69 × 69 × 25, W 397: placing the packets, filling, and reading the file where nothing is left.
 
-| pack | over memcpy |
+| call | over memcpy |
 |---|---|";
 
 /// A pack, and the memory that it is received in.
@@ -24,12 +23,8 @@ struct Receiving {
     copy: Vec<u8>,
 }
 
-pub fn table() {
+pub fn table() -> Result<Vec<Ratio>, Refusal> {
     println!("{HEADER}");
-    rows().expect("the reference set is good");
-}
-
-fn rows() -> Result<(), Refusal> {
     let shape = REFERENCE_SET;
     let cells = shape.cells()?;
     let file = Random::new(8).bytes(shape.file_len()?);
@@ -37,6 +32,7 @@ fn rows() -> Result<(), Refusal> {
     let burst = cells / 3..cells / 3 + 2 * shape.l1 * shape.l2;
     let first = |percent: usize| -> Vec<usize> { (0..cells * percent / 100).collect() };
     let without_burst = (0..cells).filter(|cell| !burst.contains(cell)).collect();
+    let mut rows = Vec::new();
     for (what, heard, whole) in [
         ("all packets", first(100), true),
         ("all but 2 × L1 × L2 in succession", without_burst, true),
@@ -59,9 +55,9 @@ fn rows() -> Result<(), Refusal> {
             }],
         );
         assert!(!whole || state.file == file, "the file comes back");
-        print_row(what, &least);
+        rows.push(Ratio::print(&format!("receive: {what}"), &least));
     }
-    Ok(())
+    Ok(rows)
 }
 
 /// The pack of these of the packets of a written pack.

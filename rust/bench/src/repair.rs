@@ -1,12 +1,11 @@
 //! Filling and mending of the reference set against memcpy.
 
 use std::hint::black_box;
-use std::time::Duration;
 
 use jibrufath::{Refusal, encode, fill, mend};
 use reference::random::Random;
 
-use crate::{REFERENCE_SET, least_times};
+use crate::{REFERENCE_SET, Ratio, least_times};
 
 /// What is said before the table.
 const HEADER: &str = "\
@@ -16,22 +15,23 @@ Filling and mending of 69 × 69 × 25, W 397. Putting the damage back between ro
 |---|---|";
 
 /// A damaged cube, and the memory that it is repaired in.
-struct Repair {
+pub struct Repair {
     right: Vec<u8>,
     damaged: Vec<u8>,
     flags: Vec<u8>,
-    cube: Vec<u8>,
-    cube_flags: Vec<u8>,
+    pub cube: Vec<u8>,
+    pub cube_flags: Vec<u8>,
     second: Vec<u8>,
 }
 
-pub fn table() {
+pub fn table() -> Result<Vec<Ratio>, Refusal> {
     println!("{HEADER}");
-    fill_rows().expect("the reference set is good");
-    mend_row().expect("the reference set is good");
+    let mut rows = fill_rows()?;
+    rows.push(mend_row()?);
+    Ok(rows)
 }
 
-fn fill_rows() -> Result<(), Refusal> {
+fn fill_rows() -> Result<Vec<Ratio>, Refusal> {
     let shape = REFERENCE_SET;
     let cells = shape.cells()?;
     let burst = cells / 3..cells / 3 + 2 * shape.l1 * shape.l2;
@@ -39,6 +39,7 @@ fn fill_rows() -> Result<(), Refusal> {
     let none = vec![0; cells];
     let in_succession = (0..cells).map(|cell| u8::from(burst.contains(&cell)));
     let scattered = (0..cells).map(|_| u8::from(random.chance(5)));
+    let mut rows = Vec::new();
     for (what, flags) in [
         ("nothing lost, a full check", none),
         (
@@ -56,12 +57,12 @@ fn fill_rows() -> Result<(), Refusal> {
             }],
         );
         assert!(state.cube == state.right, "filling restores the cube");
-        print_row(&format!("fill: {what}"), &least);
+        rows.push(Ratio::print(&format!("fill: {what}"), &least));
     }
-    Ok(())
+    Ok(rows)
 }
 
-fn mend_row() -> Result<(), Refusal> {
+fn mend_row() -> Result<Ratio, Refusal> {
     let shape = REFERENCE_SET;
     let mut state = Repair::new(vec![0; shape.cells()?])?;
     let least = least_times(
@@ -72,19 +73,12 @@ fn mend_row() -> Result<(), Refusal> {
         }],
     );
     assert!(state.second == state.right, "mending keeps a right cube");
-    print_row("mend: nothing wrong", &least);
-    Ok(())
-}
-
-/// Prints how long the second of two pieces of work takes, over the first.
-pub fn print_row(what: &str, least: &[Duration]) {
-    let ratio = least[1].as_secs_f64() / least[0].as_secs_f64();
-    println!("| {what} | {ratio:.2} |");
+    Ok(Ratio::print("mend: nothing wrong", &least))
 }
 
 impl Repair {
     /// A random code cube, with garbage in the flagged cells.
-    fn new(flags: Vec<u8>) -> Result<Repair, Refusal> {
+    pub fn new(flags: Vec<u8>) -> Result<Repair, Refusal> {
         let shape = REFERENCE_SET;
         let mut random = Random::new(7);
         let data = random.bytes(shape.data_len()?);
@@ -106,12 +100,12 @@ impl Repair {
         })
     }
 
-    fn put_damage_back(&mut self) {
+    pub fn put_damage_back(&mut self) {
         self.cube.copy_from_slice(&self.damaged);
         self.cube_flags.copy_from_slice(&self.flags);
     }
 
-    fn copy(&mut self) {
+    pub fn copy(&mut self) {
         black_box(&mut self.second).copy_from_slice(&self.cube);
     }
 }

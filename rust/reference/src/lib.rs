@@ -1,4 +1,4 @@
-//! An independent program for the packet cube, written from document 01 alone.
+//! An independent program for the packet cube of document 01.
 //!
 //! It is made to be compared with, so it takes other ways than the library where it can: log tables for
 //! the field, linear equations for encoding and filling small cubes, another order of axes for encoding

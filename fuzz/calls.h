@@ -1,0 +1,43 @@
+/* What the parts of the harness share: an input taken apart, the lent slices, and the checks that every answer gets. */
+#ifndef CALLS_H
+#define CALLS_H
+
+#include "../include/jibrufath.h"
+#include "lent.h"
+#include "model.h"
+
+/* No cube above so many bytes is lent. */
+#define MOST_BYTES ((size_t)1 << 15)
+
+struct input {
+    const uint8_t *bytes;
+    size_t len;
+};
+
+/* The input's next byte, 0 behind its end; and a number of eight of them. */
+uint8_t next_byte(struct input *input);
+size_t next_number(struct input *input);
+
+/* A small shape that passes the checks; now and then a wide or a long one. */
+struct shape next_shape(struct input *input);
+
+/* The exact length, or by one byte of the input one more or one less in one slice. */
+size_t near(size_t exact, uint8_t choice, int slice);
+
+/* What the calls are lent. */
+extern struct lent pack, cube, flags, file, output, data;
+
+enum call { RECEIVE, WRITE, RETURN, DAMAGE, FILL, MEND, PASS, ENCODE, SIZES, CALLS };
+
+/* Counts an answer, and requires one of the numbers that the call can give, as bits. */
+void note(enum call call, uint64_t answer, uint32_t numbers);
+
+/* Requires of cube and flags what filling leaves, where these flags and this cube are filled. */
+void check_filled(const struct shape *shape, const uint8_t *placed_flags, const uint8_t *placed_cube, uint64_t left);
+
+typedef void fuzz_call(struct input input, uint8_t choice);
+
+fuzz_call fuzz_receive, fuzz_write, fuzz_return, fuzz_damage;
+fuzz_call fuzz_fill, fuzz_mend, fuzz_pass, fuzz_encode, fuzz_sizes;
+
+#endif

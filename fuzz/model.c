@@ -1,0 +1,93 @@
+/* Lines of a cube: each is visited once, by its first cell, its stride and its length. */
+#include "model.h"
+
+struct line {
+    size_t first, stride, len;
+};
+
+typedef int visit(const struct shape *shape, struct line line, void *state);
+
+size_t cells_of(const struct shape *shape)
+{
+    return shape->length[0] * shape->length[1] * shape->length[2];
+}
+
+size_t capacity_of(const struct shape *shape)
+{
+    return shape->w * (shape->length[0] - 2) * (shape->length[1] - 2) * (shape->length[2] - 2);
+}
+
+/* Visits every line, and says how often the visits answered 1. */
+static size_t visit_lines(const struct shape *shape, visit *each, void *state)
+{
+    size_t answers = 0;
+    size_t stride = 1;
+    for (int axis = 0; axis < 3; axis++) {
+        size_t len = shape->length[axis];
+        for (size_t cell = 0; cell < cells_of(shape); cell++)
+            if (cell / stride % len == 0)
+                answers += (size_t)each(shape, (struct line){cell, stride, len}, state);
+        stride *= len;
+    }
+    return answers;
+}
+
+static size_t flagged(const uint8_t *flags, struct line line)
+{
+    size_t count = 0;
+    for (size_t i = 0; i < line.len; i++)
+        count += flags[line.first + i * line.stride];
+    return count;
+}
+
+static int peel_line(const struct shape *shape, struct line line, void *state)
+{
+    uint8_t *flags = state;
+    size_t count = flagged(flags, line);
+    (void)shape;
+    if (count == 0 || count > 2)
+        return 0;
+    for (size_t i = 0; i < line.len; i++)
+        flags[line.first + i * line.stride] = 0;
+    return 1;
+}
+
+void peel(const struct shape *shape, uint8_t *flags)
+{
+    while (visit_lines(shape, peel_line, flags) > 0)
+        continue;
+}
+
+struct bytes {
+    const uint8_t *cube, *flags;
+};
+
+static int line_wrong(const struct shape *shape, struct line line, void *state)
+{
+    const struct bytes *bytes = state;
+    if (flagged(bytes->flags, line) > 0)
+        return 0;
+    for (size_t layer = 0; layer < shape->w; layer++) {
+        unsigned first = 0, second = 0;
+        for (size_t i = line.len; i-- > 0;) {
+            unsigned byte = bytes->cube[(line.first + i * line.stride) * shape->w + layer];
+            second <<= 1;
+            if (second > 0xFF)
+                second ^= 0x1C3;
+            first ^= byte;
+            second ^= byte;
+        }
+        if (first != 0 || second != 0)
+            return 1;
+    }
+    return 0;
+}
+
+int lines_right(const struct shape *shape, const uint8_t *cube, const uint8_t *flags)
+{
+    for (size_t i = 0; i < cells_of(shape) * shape->w; i++)
+        if (flags[i / shape->w] == 1 && cube[i] != 0)
+            return 0;
+    struct bytes bytes = {cube, flags};
+    return visit_lines(shape, line_wrong, &bytes) == 0;
+}

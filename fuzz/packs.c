@@ -1,0 +1,211 @@
+/* The calls on packs: any bytes as a pack, and packs that the writer wrote, with packets lost and bytes changed. */
+#include "calls.h"
+
+#include <string.h>
+
+/* The bytes of an air pack before its packets. */
+#define HEAD ((size_t)17)
+
+/* The shape in a pack's section 1, or a small one where that is cut, refused or too large. */
+static struct shape shape_in(struct input input)
+{
+    struct shape small = {{3, 3, 3}, 5};
+    if (input.len < 9)
+        return small;
+    const uint8_t *at = input.bytes + 4;
+    struct shape shape = {{at[0], at[1], at[2]}, at[3] + 256u * at[4]};
+    uint64_t bytes = jibrufath_cube_bytes(at[0], at[1], at[2], shape.w);
+    uint64_t room = jibrufath_count(jibrufath_capacity(at[0], at[1], at[2], shape.w));
+    return jibrufath_number(bytes) != JIBRUFATH_OK || jibrufath_count(bytes) > MOST_BYTES || room < 4 ? small : shape;
+}
+
+/* Where the cell of a packet begins in the cube. */
+static size_t cell_of(const struct shape *shape, const uint8_t *packet)
+{
+    return packet[0] + shape->length[0] * (packet[1] + shape->length[1] * packet[2]);
+}
+
+/* The flags and the cube of an air pack whose packets are placed and not yet filled. */
+static void place(const struct shape *shape, uint8_t *placed_flags, uint8_t *placed_cube)
+{
+    memset(placed_flags, 1, cells_of(shape));
+    memset(placed_cube, 0, cells_of(shape) * shape->w);
+    for (size_t at = HEAD; at < pack.len; at += 3 + shape->w) {
+        size_t cell = cell_of(shape, pack.bytes + at);
+        placed_flags[cell] = 0;
+        memcpy(placed_cube + cell * shape->w, pack.bytes + at + 3, shape->w);
+    }
+}
+
+static void check_opened(const struct shape *shape, size_t len)
+{
+    lend(&data, capacity_of(shape), 1);
+    const size_t *l = shape->length;
+    uint64_t answer = jibrufath_data(cube.bytes, cube.len, data.bytes, data.len, l[0], l[1], l[2], shape->w);
+    require(answer == JIBRUFATH_OK, "a data string");
+    const uint8_t *string = data.bytes;
+    require((string[0] | string[1] << 8 | (size_t)string[2] << 16 | (size_t)string[3] << 24) == len, "the file's length");
+    require(memcmp(string + 4, file.bytes, len) == 0, "the file's bytes");
+    for (size_t i = 4 + len; i < data.len; i++)
+        require(string[i] == 0, "00h behind the file");
+    require(kept_from(&file, len), "the file buffer behind the file");
+}
+
+static void check_received(const struct shape *shape, uint64_t answer, const uint64_t *counts)
+{
+    static uint8_t placed_flags[MOST_BYTES], placed_cube[MOST_BYTES];
+    unsigned number = (unsigned)jibrufath_number(answer);
+    int opened = answer == JIBRUFATH_OK;
+    require(opened || kept(&file), "the file buffer");
+    require(kept(&pack), "the pack");
+    if (number == JIBRUFATH_CONFLICT) {
+        require(all(&cube, 0) && all(&flags, 1), "a cube of nothing");
+    } else if (number == JIBRUFATH_OK || number == JIBRUFATH_NO_FILLING || number == JIBRUFATH_FILE_LENGTH) {
+        place(shape, placed_flags, placed_cube);
+        if (number != JIBRUFATH_NO_FILLING) {
+            check_filled(shape, placed_flags, placed_cube, jibrufath_count(answer));
+        } else {
+            require(memcmp(flags.bytes, placed_flags, flags.len) == 0, "the flags as placed");
+            require(memcmp(cube.bytes, placed_cube, cube.len) == 0, "the cube as placed");
+        }
+    } else {
+        require(kept(&cube) && kept(&flags), "the memory that a refusal keeps");
+    }
+    if (opened)
+        check_opened(shape, counts[JIBRUFATH_FILE_BYTES]);
+    size_t packets = number == JIBRUFATH_OK ? (pack.len - HEAD) / (3 + shape->w) : 0;
+    require(counts[JIBRUFATH_PACKETS] == packets, "the count of packets");
+    require(counts[JIBRUFATH_REPEATS] <= packets, "the count of repeats");
+    for (int i = JIBRUFATH_REPEATS + 1; i < JIBRUFATH_COUNTS; i++)
+        require(counts[i] == 0, "the counts to come");
+}
+
+/* Receives what stands in `pack`. */
+static uint64_t receive(const struct shape *shape, uint8_t choice, enum call call)
+{
+    lend(&cube, near(cells_of(shape) * shape->w, choice, 0), choice);
+    lend(&flags, near(cells_of(shape), choice, 1), choice);
+    lend(&file, near(capacity_of(shape) - 4, choice, 2), choice);
+    uint64_t counts[JIBRUFATH_COUNTS];
+    memset(counts, 0xEE, sizeof counts);
+    uint64_t answer = jibrufath_receive(
+        pack.bytes, pack.len, cube.bytes, cube.len, flags.bytes, flags.len, file.bytes, file.len, counts);
+    note(call, answer, 0x7FDF); /* 0 to 4, 6 to 14 */
+    check_received(shape, answer, counts);
+    return answer;
+}
+
+void fuzz_receive(struct input input, uint8_t choice)
+{
+    struct shape shape = shape_in(input);
+    lend_copy(&pack, input.bytes, input.len, choice);
+    receive(&shape, choice, RECEIVE);
+}
+
+/* Writes what stands in `pack` to `output`. */
+static uint64_t write_job(const struct shape *shape, uint8_t choice, enum call call)
+{
+    size_t cells = cells_of(shape);
+    lend(&cube, near(cells * shape->w, choice, 0), choice);
+    lend(&output, near(HEAD + cells * (3 + shape->w), choice, 1), choice);
+    uint64_t answer = jibrufath_write(pack.bytes, pack.len, cube.bytes, cube.len, output.bytes, output.len);
+    note(call, answer, 0x07DF); /* 0 to 4, 6 to 10 */
+    require(kept(&pack), "the job");
+    if (answer != JIBRUFATH_OK) {
+        require(kept(&cube) && kept(&output), "the memory that a refusal keeps");
+        return answer;
+    }
+    lend(&flags, cells, choice);
+    memset(flags.bytes, 0, cells);
+    require(lines_right(shape, cube.bytes, flags.bytes), "the code cube");
+    for (size_t cell = 0; cell < cells; cell++) {
+        const uint8_t *packet = output.bytes + HEAD + cell * (3 + shape->w);
+        require(cell_of(shape, packet) == cell, "the packets in cell order");
+        require(memcmp(packet + 3, cube.bytes + cell * shape->w, shape->w) == 0, "a packet's bytes");
+    }
+    return answer;
+}
+
+void fuzz_write(struct input input, uint8_t choice)
+{
+    struct shape shape = shape_in(input);
+    lend_copy(&pack, input.bytes, input.len, choice);
+    write_job(&shape, choice, WRITE);
+}
+
+/* Drops and repeats packets of `output` by the input's bytes, and leaves the air pack in `pack`. */
+static void lose(struct input *input, const struct shape *shape, uint8_t choice)
+{
+    static uint8_t air[LENT_MOST];
+    size_t size = 3 + shape->w, cells = cells_of(shape), packets = 0;
+    uint8_t share = next_byte(input);
+    uint32_t state = next_byte(input);
+    memcpy(air, output.bytes, HEAD);
+    for (size_t i = 0; i < cells; i++) {
+        state = state * 1664525u + 1013904223u + (input->len > 0 ? next_byte(input) : 0);
+        if ((uint8_t)(state >> 24) < share)
+            continue;
+        size_t cell = share & 1 ? (i * 7 + state % 3) % cells : i;
+        memcpy(air + HEAD + size * packets++, output.bytes + HEAD + size * cell, size);
+    }
+    for (int i = 0; i < 4; i++)
+        air[13 + i] = (uint8_t)(packets >> (8 * i));
+    lend_copy(&pack, air, HEAD + size * packets, choice);
+}
+
+/* Leaves in `pack` a job with a file of the input's bytes, which may be one byte too long, and answers with the file's length. */
+static size_t next_job(struct input *input, const struct shape *shape, uint8_t choice)
+{
+    static uint8_t job[HEAD + MOST_BYTES];
+    size_t room = capacity_of(shape) < 4 ? 0 : capacity_of(shape) - 4;
+    size_t len = next_number(input) % (room + 2);
+    size_t copied = len < input->len ? len : input->len;
+    job[0] = 5;
+    for (int axis = 0; axis < 3; axis++)
+        job[4 + axis] = (uint8_t)shape->length[axis];
+    job[7] = (uint8_t)shape->w;
+    job[8] = (uint8_t)(shape->w >> 8);
+    for (int i = 0; i < 4; i++)
+        job[9 + i] = (uint8_t)(len >> (8 * i));
+    memset(job + 13, 0, len + 4);
+    memcpy(job + 13, input->bytes, copied);
+    *input = (struct input){input->bytes + copied, input->len - copied};
+    lend_copy(&pack, job, HEAD + len, choice);
+    return len;
+}
+
+/* The third demand: a file that is written, loses any packets and is received. */
+void fuzz_return(struct input input, uint8_t choice)
+{
+    static uint8_t sent[MOST_BYTES];
+    struct shape shape = next_shape(&input);
+    size_t len = next_job(&input, &shape, choice);
+    memcpy(sent, pack.bytes + 13, len);
+    uint64_t answer = write_job(&shape, choice, RETURN);
+    require(capacity_of(&shape) >= 4 + len || answer == JIBRUFATH_CAPACITY, "no room");
+    if (answer != JIBRUFATH_OK)
+        return;
+    lose(&input, &shape, choice);
+    answer = receive(&shape, 0, RETURN);
+    require(jibrufath_number(answer) == JIBRUFATH_OK, "packets of one code cube are not refused");
+    require(jibrufath_count(answer) > 0 || memcmp(file.bytes, sent, len) == 0, "the file comes back");
+}
+
+/* The same, with some bytes of the air pack changed. */
+void fuzz_damage(struct input input, uint8_t choice)
+{
+    struct shape shape = next_shape(&input);
+    next_job(&input, &shape, choice);
+    uint8_t changes = 1 + next_byte(&input) % 4;
+    struct input places = input;
+    if (write_job(&shape, 0, DAMAGE) != JIBRUFATH_OK)
+        return;
+    lose(&input, &shape, choice);
+    for (; changes > 0; changes--) {
+        size_t at = next_byte(&places) * 256u + next_byte(&places);
+        pack.bytes[at % pack.len] ^= next_byte(&places);
+    }
+    remember(&pack);
+    shape = shape_in((struct input){pack.bytes, pack.len});
+    receive(&shape, choice, DAMAGE);
+}

@@ -1,0 +1,187 @@
+/* Jibrufath: the proved packet cube, for C and C++. Link with target/staticlib/libjibrufath.a, which `rt staticlib jibrufath` writes.
+ *
+ * The cube
+ *   A cube has l1 * l2 * l3 cells, each a packet of w bytes. Cell (a, b, c) has number a + l1 * (b + l2 * c), and its bytes begin at
+ *   w times that number. On every line of cells along every axis the last two packets are parity, such that the bytes of a layer (the
+ *   same byte of each packet) have both sums zero: that of c(i), and that of 2^i times c(i) in the field below. A cube of which all
+ *   lines are right in this way is a code cube, and one code cube has a given data string: the bytes of the cells with a < l1 - 2,
+ *   b < l2 - 2 and c < l3 - 2, in cell order.
+ *
+ * Memory
+ *   A slice is a pointer and a length, and lengths are exact: one byte more is refused as one byte less is. Slices of one call must
+ *   not overlap. A slice of length 0 is not read or written. No call allocates, keeps a pointer, has state or fails otherwise than by
+ *   its answer, so that calls on different memory may run at the same time.
+ *
+ *   cube      jibrufath_cube_bytes: w * cells
+ *   flags     jibrufath_cells: a byte for each cell, 0 known, 1 missing
+ *   data      jibrufath_capacity: w * (l1 - 2) * (l2 - 2) * (l3 - 2)
+ *   file      capacity - 4, the most that a file can have; the other four bytes of the data string are its length
+ *   output    jibrufath_pack_bytes: 17 + cells * (3 + w)
+ *
+ * Answers
+ *   Every call but those of the field answers with 64 bits. The low byte is a number of the table below, JIBRUFATH_OK or a refusal.
+ *   What stands above it is a count with JIBRUFATH_OK (cells left, or a size) and the packet's index from 0 with refusals 11 and 12;
+ *   it is 0 with all others. jibrufath_number and jibrufath_count take an answer apart.
+ *
+ *   A call makes its checks in the order in which its comment names them, and answers with the first that fails. The checks of a
+ *   shape are 1, 2, 3, in this order. Refusals 1 to 11 and 15 change no lent byte, and no refusal changes the file buffer. */
+#ifndef JIBRUFATH_H
+#define JIBRUFATH_H
+
+#include <stddef.h>
+#include <stdint.h>
+
+#ifdef __cplusplus
+extern "C" {
+#endif
+
+/* The number in the low byte of an answer. */
+enum jibrufath_answer {
+    JIBRUFATH_OK = 0,
+    JIBRUFATH_LENGTH = 1,          /* a length is not 3 to 255, or an axis is not 1 to 3 */
+    JIBRUFATH_WIDTH = 2,           /* w is not 1 to 1,024 */
+    JIBRUFATH_SIZE = 3,            /* w * cells is above 268,435,456 */
+    JIBRUFATH_MEMORY = 4,          /* a lent slice has not the exact length */
+    JIBRUFATH_FLAG = 5,            /* a flag is neither 0 nor 1 */
+    JIBRUFATH_TRUNCATED = 6,       /* the pack ends inside a count or a section */
+    JIBRUFATH_HEADER_COUNT = 7,    /* the count of section 1 is not 5 */
+    JIBRUFATH_TRAILING_BYTES = 8,  /* the pack has bytes after section 3 */
+    JIBRUFATH_SECTION_COUNT = 9,   /* the section that must be empty is not */
+    JIBRUFATH_CAPACITY = 10,       /* the data string has no room for the file, or not even for its length */
+    JIBRUFATH_CELL_INDEX = 11,     /* a packet names a cell outside the cube; the count is the packet's index */
+    JIBRUFATH_CONFLICT = 12,       /* a packet's cell came before with other bytes; the count is the packet's index */
+    JIBRUFATH_NO_FILLING = 13,     /* the known cells contradict each other */
+    JIBRUFATH_FILE_LENGTH = 14,    /* the data string holds no file: too long, or bytes behind it that are not 00h */
+    JIBRUFATH_MISSING = 15,        /* a flag is 1, and mending takes only whole cubes */
+    JIBRUFATH_NOT_MENDED = 16      /* what mending leaves is not a code cube */
+};
+
+/* The number of an answer, and its count. */
+static inline enum jibrufath_answer jibrufath_number(uint64_t answer)
+{
+    return (enum jibrufath_answer)(answer & 0xFF);
+}
+
+static inline uint64_t jibrufath_count(uint64_t answer)
+{
+    return answer >> 8;
+}
+
+/* Sizes of a shape. Each answers with the size as its count. Checks: 1, 2, 3. */
+
+uint64_t jibrufath_cells(size_t l1, size_t l2, size_t l3, size_t w);
+uint64_t jibrufath_cube_bytes(size_t l1, size_t l2, size_t l3, size_t w);
+uint64_t jibrufath_capacity(size_t l1, size_t l2, size_t l3, size_t w);
+uint64_t jibrufath_pack_bytes(size_t l1, size_t l2, size_t l3, size_t w);
+
+/* Packs. A pack is three sections, each behind its count in four bytes, low first:
+ *   1  count 5: l1, l2, l3 in a byte each, w in two, low first
+ *   2  count = bytes of the file, then the file
+ *   3  count = packets, then for each a, b, c in a byte each and the w bytes of the cell
+ * A job pack holds a file and no packet; an air pack holds packets and no file. */
+
+/* Writes a job pack's file as an air pack that has every packet, in cell order.
+ *
+ * job and its length; cube; output. OK: cube is the code cube of the file, output the air pack; every byte of both is written, and
+ * what they held does not matter. A refusal changes nothing.
+ *
+ * Checks: 6 count 1 is cut; 7; 6 section 1 is cut; 1, 2, 3; 10 capacity below 4; 6 count 2 is cut; 10 count 2 above capacity - 4;
+ * 6 the file is cut; 6 count 3 is cut; 9 count 3 is not 0; 8; 4. */
+uint64_t jibrufath_write(
+    const uint8_t *job, size_t job_len,
+    uint8_t *cube, size_t cube_len,
+    uint8_t *output, size_t output_len);
+
+/* The places in counts. The other 13 are 0, and are kept for counts to come. */
+enum jibrufath_counts {
+    JIBRUFATH_FILE_BYTES = 0,      /* the file's length; 0 where no file came out */
+    JIBRUFATH_PACKETS = 1,         /* the packets of the pack */
+    JIBRUFATH_REPEATS = 2,         /* those of them whose cell had come before */
+    JIBRUFATH_COUNTS = 16
+};
+
+/* Receives an air pack: packets in any order, each any number of times. Places them, fills what the lines force, and opens the file
+ * where no cell is left.
+ *
+ * air and its length; cube; flags; file; counts, which is an array of 16. What cube, flags and file hold before does not matter. OK
+ * with count 0: the file came out. OK with another count: so many cells are left, always 27 or more. All
+ * 16 counts are written by every call, and all are 0 with a refusal.
+ *
+ * Checks: 6 count 1 is cut; 7; 6 section 1 is cut; 1, 2, 3; 10 capacity below 4; 6 count 2 is cut; 9 count 2 is not 0; 6 count 3 is
+ * cut; 6 the packets are cut; 8; 4; 11 of any packet; then 12, 13, 14.
+ *
+ * What memory holds afterwards:
+ *
+ *   answer           cube                                   flags                      file
+ *   1 to 4, 6 to 11  as before                              as before                  as before
+ *   12               all 00h                                all 1                      as before
+ *   13               packets in their cells, else 00h       0 where a packet came      as before
+ *   14               filled, a code cube                    all 0                      as before
+ *   OK, cells left   filled, 00h in the cells left          1 in the cells left        as before
+ *   OK, a file       filled, a code cube                    all 0                      the file, then as before */
+uint64_t jibrufath_receive(
+    const uint8_t *air, size_t air_len,
+    uint8_t *cube, size_t cube_len,
+    uint8_t *flags, size_t flags_len,
+    uint8_t *file, size_t file_len,
+    uint64_t counts[16]);
+
+/* Cubes. */
+
+/* Writes the code cube that has the data string. Every byte of cube is written. A refusal changes nothing. Checks: 1, 2, 3, 4. */
+uint64_t jibrufath_encode(
+    const uint8_t *data, size_t data_len,
+    uint8_t *cube, size_t cube_len,
+    size_t l1, size_t l2, size_t l3, size_t w);
+
+/* Reads the data string of a cube, whether or not that is a code cube. A refusal changes nothing. Checks: 1, 2, 3, 4. */
+uint64_t jibrufath_data(
+    const uint8_t *cube, size_t cube_len,
+    uint8_t *data, size_t data_len,
+    size_t l1, size_t l2, size_t l3, size_t w);
+
+/* Gives every missing cell the bytes that the lines force. Bytes of missing cells are not read.
+ *
+ * OK: the count is the number of cells left, those of the largest set of missing cells that meets every line in none or in at least
+ * three. They hold 00h and keep flag 1; every other cell is known or filled, with flag 0. With no cell missing this is a check of the
+ * cube.
+ * 13: every cell that was missing holds 00h, and the flags are as before. Lines through cells left are not checked.
+ *
+ * Checks: 1, 2, 3, 4, 5 of all flags, 13. */
+uint64_t jibrufath_fill(
+    uint8_t *cube, size_t cube_len,
+    uint8_t *flags, size_t flags_len,
+    size_t l1, size_t l2, size_t l3, size_t w);
+
+/* One mending pass along an axis: on each line, in each layer, the one wrong byte that the two sums point to is put right. A line
+ * whose sums point to no place of it keeps its bytes. A refusal changes nothing. Checks: 1 of a length or the axis, 2, 3, 4. */
+uint64_t jibrufath_mend_pass(
+    uint8_t *cube, size_t cube_len,
+    size_t l1, size_t l2, size_t l3, size_t w,
+    size_t axis);
+
+/* Passes along axes 1, 2 and 3; cube and flags are only read.
+ *
+ * OK: second is the code cube that the passes lead to. 16: second is all 00h.
+ *
+ * Checks: 1, 2, 3, 4, 5 of all flags, 15, 16. */
+uint64_t jibrufath_mend(
+    const uint8_t *cube, size_t cube_len,
+    const uint8_t *flags, size_t flags_len,
+    uint8_t *second, size_t second_len,
+    size_t l1, size_t l2, size_t l3, size_t w);
+
+/* The field: bytes as binary polynomials modulo 1C3h. The sum is a ^ b. */
+
+/* The product. */
+uint8_t jibrufath_mul(uint8_t a, uint8_t b);
+/* The byte whose product with a is 01h; 00h for 00h. */
+uint8_t jibrufath_inverse(uint8_t a);
+/* 02h to the i-th. */
+uint8_t jibrufath_pow(uint8_t i);
+
+#ifdef __cplusplus
+}
+#endif
+
+#endif
