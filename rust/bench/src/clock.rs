@@ -1,4 +1,4 @@
-//! Processor time of the running thread.
+//! Processor time: of the running thread, and of programs that are run.
 
 use std::time::Duration;
 
@@ -8,11 +8,31 @@ struct Timespec {
     nanoseconds: i64,
 }
 
+#[repr(C)]
+#[derive(Clone, Copy, Default)]
+struct Timeval {
+    seconds: i64,
+    microseconds: i64,
+}
+
+/// What the kernel says of processes; only the times are read.
+#[repr(C)]
+#[derive(Default)]
+struct Usage {
+    user: Timeval,
+    system: Timeval,
+    others: [i64; 14],
+}
+
 /// Linux's number for the processor time of the calling thread.
 const CLOCK_THREAD_CPUTIME_ID: i32 = 3;
 
+/// Linux's number for the children that have ended and were waited for.
+const RUSAGE_CHILDREN: i32 = -1;
+
 unsafe extern "C" {
     fn clock_gettime(clock: i32, time: *mut Timespec) -> i32;
+    fn getrusage(who: i32, usage: *mut Usage) -> i32;
 }
 
 fn now() -> Duration {
@@ -31,4 +51,22 @@ pub fn time(work: impl FnOnce()) -> Duration {
     let start = now();
     work();
     now() - start
+}
+
+/// The user and system time of all children so far.
+fn of_children() -> Duration {
+    let mut usage = Usage::default();
+    // SAFETY: the call writes one rusage, which on 64-bit Linux is two timevals and 14 more 64-bit numbers.
+    let status = unsafe { getrusage(RUSAGE_CHILDREN, &mut usage) };
+    assert_eq!(status, 0, "the times are there");
+    let [user, system] = [usage.user, usage.system]
+        .map(|time| Duration::new(time.seconds as u64, time.microseconds as u32 * 1000));
+    user + system
+}
+
+/// What the work gives, and the processor time of the programs that it runs to their end.
+pub fn time_of_children<T>(work: impl FnOnce() -> T) -> (T, Duration) {
+    let start = of_children();
+    let result = work();
+    (result, of_children() - start)
 }

@@ -1,8 +1,9 @@
-//! The benchmark: encoding, filling, mending and receiving against memcpy of the cube, and encoding against ISA-L and GF-Complete.
+//! The benchmark: encoding, filling, mending and receiving against memcpy of the cube, and encoding against ISA-L,
+//! GF-Complete, zfec and par2.
 //!
 //! All times of one table row come from the same run, in rounds that take every candidate in turn; each is the minimum of its
 //! rounds, in processor time of the thread. Buffers are allocated and touched before any timing. `bench --svg PATH` also draws
-//! the tables.
+//! the tables. The programs zfec and par2 alone are timed as their table says.
 
 mod clock;
 mod cube_encoder;
@@ -11,6 +12,7 @@ mod gf_complete;
 mod growth;
 mod isal;
 mod plot;
+mod programs;
 mod receiving;
 mod repair;
 
@@ -56,7 +58,8 @@ fn main() -> Result<(), Box<dyn Error>> {
     if let Some(path) = path {
         fs::write(path, plot::draw(&ratios, &sizes, &shares))?;
     }
-    Ok(())
+    println!();
+    programs::table()
 }
 
 impl Ratio {
