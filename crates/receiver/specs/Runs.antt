@@ -13,6 +13,11 @@ pub record Copied (src : List ℕ) (from : ℕ) (before : List ℕ) (to n : ℕ)
   pub below : (p : ℕ) → p < to → getD after p 0 ≡ getD before p 0
   pub above : (p : ℕ) → to + n ≤ p → getD after p 0 ≡ getD before p 0
 
+-- c is the 64 bytes from `from` on
+pub record Window (src : List ℕ) (from : ℕ) (c : List ℕ) : Type 0 where
+  pub size : length c ≡ 64
+  pub bytes : (i : ℕ) → i < 64 → getD c i 0 ≡ getD src (from + i) 0
+
 -- whether n bytes of two slices agree
 pub record Compared (xs : List ℕ) (from : ℕ) (ys : List ℕ) (to n : ℕ) (r : Bool) : Type 0 where
   pub equal : r ≡ true → (i : ℕ) → i < n → getD xs (from + i) 0 ≡ getD ys (to + i) 0
