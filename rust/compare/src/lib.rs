@@ -11,5 +11,5 @@ use agreement::compare;
 pub use agreement::{Agreed, agree, numbered};
 pub use cubes::{Embedded, random_code_cube};
 pub use packs::{KINDS, Source};
-pub use shapes::{SHAPES_AT_THE_LIMITS, random_shape, twin};
+pub use shapes::{LARGE_SHAPES, SHAPES_AT_THE_LIMITS, random_shape, twin};
 pub use trial::{Answers, Lens, Trial};

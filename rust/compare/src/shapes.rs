@@ -46,6 +46,18 @@ pub fn twin(shape: Shape) -> reference::Shape {
     reference::Shape::new(shape.l1, shape.l2, shape.l3, shape.w)
 }
 
+/// Shapes larger than the random ones: long axes, wide cells, many cells.
+pub const LARGE_SHAPES: [Shape; 8] = [
+    Shape::new(69, 69, 25, 3),
+    Shape::new(20, 20, 10, 397),
+    Shape::new(255, 255, 3, 1),
+    Shape::new(255, 3, 255, 2),
+    Shape::new(3, 255, 255, 5),
+    Shape::new(130, 140, 150, 1),
+    Shape::new(9, 9, 9, 1024),
+    Shape::new(4, 5, 255, 1024),
+];
+
 const HUGE: usize = usize::MAX;
 
 /// Shapes, and what every call answers to them that is lent slices of wrong lengths: 4 where the shape is good.

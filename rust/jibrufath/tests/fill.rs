@@ -1,7 +1,8 @@
 //! Filling compared with the independent program: answer, cube and flags, with garbage in missing cells.
 
 use compare::{
-    Embedded, SHAPES_AT_THE_LIMITS, agree, numbered, random_code_cube, random_shape, twin,
+    Embedded, LARGE_SHAPES, SHAPES_AT_THE_LIMITS, agree, numbered, random_code_cube, random_shape,
+    twin,
 };
 use jibrufath::{Shape, fill};
 use reference::random::Random;
@@ -356,17 +357,7 @@ fn many_passes() {
 fn large_cubes() {
     let mut random = Random::new(3013);
     let in_succession = |shape: Shape| 2 * shape.l1 * shape.l2;
-    for (l1, l2, l3, w) in [
-        (69, 69, 25, 3),
-        (20, 20, 10, 397),
-        (255, 255, 3, 1),
-        (255, 3, 255, 2),
-        (3, 255, 255, 5),
-        (130, 140, 150, 1),
-        (9, 9, 9, 1024),
-        (4, 5, 255, 1024),
-    ] {
-        let shape = Shape::new(l1, l2, l3, w);
+    for shape in LARGE_SHAPES {
         let right = Trial::new(&mut random, shape);
         assert_eq!(right.compare(&mut random), Ok(0), "{shape:?}, nothing lost");
         for percent in [5, 60, 95] {

@@ -1,6 +1,8 @@
 //! Mending and its passes compared with the independent program: restored, refused, or another code cube.
 
-use compare::{SHAPES_AT_THE_LIMITS, agree, numbered, random_code_cube, random_shape, twin};
+use compare::{
+    LARGE_SHAPES, SHAPES_AT_THE_LIMITS, agree, numbered, random_code_cube, random_shape, twin,
+};
 use jibrufath::{Shape, mend, mend_pass};
 use reference::field::{inverse, mul, pow};
 use reference::random::Random;
@@ -240,17 +242,7 @@ fn passes_over_garbage() {
 #[test]
 fn large_cubes() {
     let mut random = Random::new(4006);
-    for (l1, l2, l3, w) in [
-        (69, 69, 25, 3),
-        (20, 20, 10, 397),
-        (255, 255, 3, 1),
-        (255, 3, 255, 2),
-        (3, 255, 255, 5),
-        (130, 140, 150, 1),
-        (9, 9, 9, 1024),
-        (4, 5, 255, 1024),
-    ] {
-        let shape = Shape::new(l1, l2, l3, w);
+    for shape in LARGE_SHAPES {
         let right = random_code_cube(&mut random, shape);
         assert_eq!(
             compare(&mut random, shape, &right, &right),

@@ -3,7 +3,8 @@
 use std::collections::BTreeMap;
 
 use compare::{
-    Answers, KINDS, Lens, SHAPES_AT_THE_LIMITS, Source, Trial, numbered, random_shape, twin,
+    Answers, KINDS, LARGE_SHAPES, Lens, SHAPES_AT_THE_LIMITS, Source, Trial, numbered,
+    random_shape, twin,
 };
 use jibrufath::{Reception, Refusal, Shape, receive, write};
 use reference::pack::{Packet, pack, packet, read_air};
@@ -400,19 +401,12 @@ fn packets_and_repeats_are_counted() {
 #[test]
 fn large_packs() {
     let mut random = Random::new(5002);
-    for (l1, l2, l3, w) in [
-        (69, 69, 25, 3),
-        (20, 20, 10, 397),
-        (255, 255, 3, 1),
-        (255, 3, 255, 2),
-        (3, 255, 255, 5),
-        (9, 9, 9, 1024),
-        (4, 5, 255, 1024),
-    ] {
-        let shape = reference::Shape::new(l1, l2, l3, w);
+    for large in LARGE_SHAPES {
+        let shape = twin(large);
         let source = Source::of_shape(&mut random, shape);
-        let burst = random.among(0..=shape.cells() - 2 * l1 * l2);
-        let burst = burst..burst + 2 * l1 * l2;
+        let two_planes = 2 * large.l1 * large.l2;
+        let first = random.among(0..=shape.cells() - two_planes);
+        let burst = first..first + two_planes;
         let some: Vec<usize> = (0..shape.cells()).filter(|_| random.chance(40)).collect();
         for (pack, all) in [
             (source.without(&mut random, |_| false), true),
