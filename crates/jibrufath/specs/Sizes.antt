@@ -22,7 +22,7 @@ unfoldable pub sizeAnswer : (Shape → ℕ) → Shape → ℕ
 sizeAnswer size sh = sizeNumber (size sh) (measured sh)
 
 -- the four answers of a shape
-pub record Sized (sh : Shape) (r : SizeAnswers) : Type 0 where
+pub record SizesOf (sh : Shape) (r : SizeAnswers) : Type 0 where
   pub cells : r .cells ≡ sizeAnswer cells sh
   pub cube : r .cube ≡ sizeAnswer cubeBytes sh
   pub capacity : r .capacity ≡ sizeAnswer capacity sh

@@ -5,7 +5,7 @@ ghost use mathlib.Core.Path.{_≡_};
 ghost use Rattle.cube.specs.Shapes.{cells, capacity};
 ghost use Rattle.writer.specs.Write.{packSize};
 ghost use Rattle.jibrufath.specs.Exports.{shape};
-ghost use Rattle.jibrufath.specs.Sizes.{cubeBytes, sizeAnswer, Sized};
+ghost use Rattle.jibrufath.specs.Sizes.{cubeBytes, sizeAnswer, SizesOf};
 
 // The answer to each question.
 struct SizeAnswers {
@@ -53,7 +53,7 @@ pub extern "C" fn jibrufath_pack_bytes(l1: usize, l2: usize, l3: usize, w: usize
 
 // The four answers: each size times 256, or the number of the shape's refusal in the place of each.
 fn answers(l1: usize, l2: usize, l3: usize, w: usize) -> SizeAnswers
-    ensures { λ r. ⌜ Sized (shape l1 l2 l3 w) r ⌝ }
+    ensures { λ r. ⌜ SizesOf (shape l1 l2 l3 w) r ⌝ }
 {
     let sh = Shape {
         l1: l1,

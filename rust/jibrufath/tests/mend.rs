@@ -97,25 +97,28 @@ fn damage(random: &mut Random, shape: Shape, cube: &mut [u8], cells: &[usize], c
     }
 }
 
+/// Damages a code cube in `count` places of a layer among `cells`, and mends it. Up to seven wrong bytes a layer are always mended.
+fn damage_and_mend(random: &mut Random, shape: Shape, cells: &[usize], count: usize) -> Outcome {
+    let right = random_code_cube(random, shape);
+    let mut damaged = right.clone();
+    damage(random, shape, &mut damaged, cells, count);
+    compare_passes(random, shape, &damaged);
+    let outcome = compare(random, shape, &right, &damaged);
+    assert!(
+        count > 7 || outcome == Outcome::Restored,
+        "{shape:?}, {count} wrong"
+    );
+    outcome
+}
+
 #[test]
 fn wrong_bytes_anywhere() {
     let mut random = Random::new(4001);
     let mut tally = Tally::default();
     for case in 0..5_000 {
         let shape = random_shape(&mut random);
-        let right = random_code_cube(&mut random, shape);
-        let mut damaged = right.clone();
         let all: Vec<usize> = (0..twin(shape).cells()).collect();
-        let count = 1 + case % 12;
-        damage(&mut random, shape, &mut damaged, &all, count);
-        compare_passes(&mut random, shape, &damaged);
-        let outcome = compare(&mut random, shape, &right, &damaged);
-        // Up to seven wrong bytes a layer are always mended.
-        assert!(
-            count > 7 || outcome == Outcome::Restored,
-            "{shape:?}, {count} wrong"
-        );
-        tally.count(outcome);
+        tally.count(damage_and_mend(&mut random, shape, &all, 1 + case % 12));
     }
     assert!(tally.restored > 2_500 && tally.refused > 20, "{tally:?}");
 }
@@ -126,8 +129,6 @@ fn wrong_bytes_close_together() {
     let mut tally = Tally::default();
     for case in 0..4_000 {
         let shape = random_shape(&mut random);
-        let right = random_code_cube(&mut random, shape);
-        let mut damaged = right.clone();
         let count = 1 + case % 12;
         // A box that has room for them, and little more.
         let sizes = loop {
@@ -137,14 +138,7 @@ fn wrong_bytes_close_together() {
             }
         };
         let cells = random_box(&mut random, shape, sizes);
-        damage(&mut random, shape, &mut damaged, &cells, count);
-        compare_passes(&mut random, shape, &damaged);
-        let outcome = compare(&mut random, shape, &right, &damaged);
-        assert!(
-            count > 7 || outcome == Outcome::Restored,
-            "{shape:?}, {count} wrong"
-        );
-        tally.count(outcome);
+        tally.count(damage_and_mend(&mut random, shape, &cells, count));
     }
     assert!(tally.restored > 1_500 && tally.refused > 500, "{tally:?}");
 }
