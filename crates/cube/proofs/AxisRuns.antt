@@ -4,13 +4,14 @@ use mathlib.Core.Path.{_≡_, refl, sym, ap, ap₂, _∙_}
 use mathlib.Core.Bool.{Bool, true, false, cond}
 use mathlib.Core.List.{List}
 use Prim.Native.Nat.{ℕ, _+_, _-_, _*_, _/_, _%_, _≤_, _<_}
-use native.Mathlib.Nat.{mul-assoc, mul-comm, mul-left-comm, add-mul, add-assoc, add-comm, add-left-comm, add-zero, mul-suc, suc-mul, mul-one, one-mul, mul-le-mul-right, mul-le-mul-left, div-add-mod', mod-lt, add-mod-right, mul-mod-left, mul-div-cancel, add-div-right, div-lt-iff-lt-mul}
+use native.Mathlib.Nat.{mul-assoc, mul-comm, mul-left-comm, add-mul, add-assoc, add-comm, add-left-comm, add-zero, mul-suc, mul-one, one-mul, mul-le-mul-right, mul-le-mul-left, div-add-mod', mod-lt, add-mod-right, mul-mod-left, mul-div-cancel, add-div-right, div-lt-iff-lt-mul}
 use native.Mathlib.Decide.{decLt}
 use native.Mathlib.Omega.{arith}
 use lib.Arith.{digits-div, digits-mod}
 use lib.Dec.{ltb}
 use lib.ListN.{getD}
 use borrow.Author.Tests.{ltb-true}
+use Rattle.span.proofs.Stretches.{stretch-end}
 use Rattle.cube.specs.declared.Shape.{Shape}
 use Rattle.cube.specs.declared.Line.{Line}
 use Rattle.cube.specs.declared.LineAnswer.{LineAnswer}
@@ -66,10 +67,6 @@ lines-ended sh axis m f v low high e =
     ]
 
 -- ---- numbers
-
--- stretch b of equal stretches ends where the next begins
-pub stretch-end : (b n s : ℕ) → b < n → b * s + s ≤ n * s
-stretch-end b n s l = omega (arith, suc-mul b s, mul-le-mul-right s l)
 
 pub layer-below : (q s t w : ℕ) → q < s → t < w → q * w + t < s * w
 layer-below q s t w lq lt = omega (arith, stretch-end q s w lq)

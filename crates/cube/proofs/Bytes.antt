@@ -1,15 +1,12 @@
 -- Byte geometry: rows, planes and cells one after the other, and the sizes of a valid shape.
 use mathlib.Core.Path.{_≡_}
 use Prim.Native.Nat.{ℕ, _+_, _*_, _-_, _≤_, _<_}
-use native.Mathlib.Nat.{suc-mul, mul-le-mul-right, mul-le-mul, mul-assoc, mul-comm, mul-left-comm, mul-add, add-assoc, add-comm, add-left-comm}
+use native.Mathlib.Nat.{mul-le-mul-right, mul-le-mul, mul-assoc, mul-comm, mul-left-comm, mul-add, add-assoc, add-comm, add-left-comm}
 use native.Mathlib.Omega.{arith}
+use Rattle.span.proofs.Stretches.{stretch-end}
 use Rattle.cube.specs.declared.Shape.{Shape}
 use Rattle.cube.specs.Shapes.{Valid, cells, capacity}
 use Rattle.cube.specs.Plane.{spot, planeBytes, partBytes}
-
--- stretch b of equal stretches ends where the next begins
-pub stretch-end : (b n s : ℕ) → b < n → b * s + s ≤ n * s
-stretch-end b n s l = omega (arith, suc-mul b s, mul-le-mul-right s l)
 
 -- the sizes of rows and planes fit a word
 pub record Small (sh : Shape) : Type 0 where

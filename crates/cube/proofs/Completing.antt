@@ -8,6 +8,7 @@ use native.Mathlib.Decide.{decLt}
 use native.Mathlib.Nat.{mul-comm, mul-assoc, mul-left-comm, mul-le-mul-right, add-assoc, add-comm, add-left-comm, zero-add}
 use native.Mathlib.Omega.{arith}
 use lib.ListN.{length, getD}
+use Rattle.span.proofs.Stretches.{stretch-end}
 use Rattle.field.specs.Field.{Primitive}
 use Rattle.line.specs.declared.Run.{Run}
 use Rattle.line.specs.Line.{Codeword}
@@ -16,7 +17,7 @@ use Rattle.line.proofs.Codeword.{codeword-cong}
 use Rattle.line.proofs.Erasure.{completed-off}
 use Rattle.line.proofs.Runs.{written-solved, solved-lines, solved-codewords}
 use Rattle.cube.specs.Plane.{spot}
-use Rattle.cube.proofs.Bytes.{stretch-end, rows-in-plane, spot-low, spot-row, spot-plane}
+use Rattle.cube.proofs.Bytes.{rows-in-plane, spot-low, spot-row, spot-plane}
 
 -- `solve` fills the erasures in where the run lies inside and they are places of it
 pub outcome-solved : (r : ℕ) (run : Run) (j k : ℕ) (before after : List ℕ) (answer : Bool)

@@ -1,38 +1,19 @@
--- Bytes and rows of bytes copied, one more at a time.
-use mathlib.Core.Path.{_≡_, refl, sym, ap, _∙_}
+-- Rows of bytes copied, one more at a time.
+use mathlib.Core.Path.{_≡_, sym, ap, _∙_}
 use mathlib.Core.List.{List}
 use Prim.Native.Nat.{ℕ, _+_, _*_, _≤_, _<_}
 use native.Mathlib.Decide.{ℕ-discrete}
 use native.Mathlib.Omega.{arith}
-use lib.ListN.{length, getD, set}
-use lib.Seq.{getD-set-same, getD-set-other}
-use Rattle.cube.specs.Plane.{Copied, spot, RowsCopied}
-use Rattle.cube.proofs.Bytes.{stretch-end}
-
-pub copied-none : (src dst : List ℕ) (from to : ℕ) → Copied src dst dst from to 0
-copied-none src dst from to = record { copied = λ i l. absurd (omega arith); below = λ p l. refl; above = λ p l. refl }
-
-pub copied-more : (src before after : List ℕ) (from to n : ℕ) → to + n < length after → Copied src before after from to n
-    → Copied src before (set after (to + n) (getD src (from + n) 0)) from to (n + 1)
-copied-more src before after from to n room h =
-    record {
-      copied = λ i l. elim (ℕ-discrete i n) [
-        | yes e ↦ ap (λ (k : ℕ). getD (set after (to + n) (getD src (from + n) 0)) (to + k) 0) e
-            ∙ getD-set-same after (to + n) (getD src (from + n) 0) 0 room ∙ ap (λ (k : ℕ). getD src (from + k) 0) (sym e)
-        | no ne ↦ other (to + i) (omega arith) ∙ h .copied i (omega arith)
-      ];
-      below = λ p l. other p (omega arith) ∙ h .below p l;
-      above = λ p l. other p (omega arith) ∙ h .above p (omega arith);
-    }
-  where
-    other : (p : ℕ) → (p ≡ to + n → ⊥) → getD (set after (to + n) (getD src (from + n) 0)) p 0 ≡ getD after p 0
-    other p ne = getD-set-other after (to + n) p (getD src (from + n) 0) 0 ne
+use lib.ListN.{getD}
+use Rattle.span.proofs.Stretches.{stretch-end}
+use Rattle.span.specs.Span.{Copied}
+use Rattle.cube.specs.Plane.{spot, RowsCopied}
 
 pub rows-copied-none : (src dst : List ℕ) (width from to : ℕ) → RowsCopied src dst 0 width from to
 rows-copied-none src dst width from to = record { copied = λ b i l m. absurd (omega arith) }
 
 pub rows-copied-more : (src before after : List ℕ) (rows width from to : ℕ) → width ≤ to → RowsCopied src before rows width from to
-    → Copied src before after (rows * from) (rows * to) width → RowsCopied src after (rows + 1) width from to
+    → Copied src (rows * from) before (rows * to) width after → RowsCopied src after (rows + 1) width from to
 rows-copied-more src before after rows width from to fits h k =
     record {
       copied = λ b i l m. elim (ℕ-discrete b rows) [

@@ -5,11 +5,12 @@ use Prim.Native.Nat.{ℕ, _+_, _*_, _-_, _≤_, _<_}
 use native.Mathlib.Decide.{ℕ-discrete}
 use native.Mathlib.Omega.{arith}
 use lib.ListN.{length, getD}
+use Rattle.span.proofs.Stretches.{stretch-end}
 use Rattle.cube.specs.declared.Shape.{Shape}
 use Rattle.cube.specs.Shapes.{capacity, cell}
 use Rattle.cube.specs.Cube.{layer, HoldsData}
 use Rattle.cube.specs.Plane.{spot, RowsCopied, planeBytes, partBytes, PlanesHeld}
-use Rattle.cube.proofs.Bytes.{stretch-end, spot-plane, cell-byte}
+use Rattle.cube.proofs.Bytes.{spot-plane, cell-byte}
 use Rattle.cube.proofs.Copying.{rows-copied-spot}
 use Rattle.cube.proofs.Lending.{lent, returned, lent-at, returned-at, returned-below}
 

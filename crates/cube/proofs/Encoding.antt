@@ -6,6 +6,7 @@ use Prim.Native.Nat.{ℕ, _+_, _*_, _-_, _<_}
 use native.Mathlib.Omega.{arith}
 use native.Mathlib.Decide.{ℕ-discrete}
 use lib.ListN.{length, getD}
+use Rattle.span.proofs.Stretches.{stretch-end}
 use Rattle.field.specs.Field.{Primitive}
 use Rattle.line.specs.declared.Run.{Run}
 use Rattle.line.specs.Line.{Codeword}
@@ -16,7 +17,7 @@ use Rattle.cube.specs.Shapes.{Valid, cells, capacity, IsLine, axis1, axi
 use Rattle.cube.specs.Cube.{layer, layerLine, CodeCube}
 use Rattle.cube.specs.Plane.{spot, planeBytes, RowsEncoded, PlanesCoded, PlanesHeld}
 use Rattle.cube.proofs.Geometry.{axis1-cell, axis2-cell, axis3-cell}
-use Rattle.cube.proofs.Bytes.{stretch-end, planes-in-cube, planes-fill}
+use Rattle.cube.proofs.Bytes.{planes-in-cube, planes-fill}
 use Rattle.cube.proofs.Completing.{acrossRun, across-inside, across-byte, across-off}
 use Rattle.cube.proofs.Parity.{crossing}
 use Rattle.cube.proofs.DataString.{layer-byte}

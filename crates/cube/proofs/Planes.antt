@@ -6,6 +6,7 @@ use native.Mathlib.Nat.{suc-mul}
 use native.Mathlib.Omega.{arith}
 use native.Mathlib.Decide.{ℕ-discrete}
 use lib.ListN.{length, getD}
+use Rattle.span.proofs.Stretches.{stretch-end}
 use Rattle.field.specs.Field.{Primitive}
 use Rattle.line.specs.Line.{Codeword}
 use Rattle.line.specs.Run.{Inside, Solved}
@@ -13,7 +14,7 @@ use Rattle.line.proofs.Codeword.{codeword-cong}
 use Rattle.cube.specs.declared.Shape.{Shape}
 use Rattle.cube.specs.Shapes.{Valid}
 use Rattle.cube.specs.Plane.{spot, RowsCompleted, PlaneCode, planeBytes, PlanesCoded}
-use Rattle.cube.proofs.Bytes.{stretch-end, spot-plane}
+use Rattle.cube.proofs.Bytes.{spot-plane}
 use Rattle.cube.proofs.Lending.{lent, returned, lent-at, returned-at, returned-below, returned-above}
 use Rattle.cube.proofs.Completing.{rowRun, row-codeword, row-data, row-other, columnsRun, column-codeword, column-data}
 use Rattle.cube.proofs.Parity.{crossing}

@@ -1,18 +1,19 @@
 -- The lines of an axis that are right, run by run; and a code cube is one whose three axes are right.
-use mathlib.Core.Path.{_≡_, refl, sym, ap, _∙_}
+use mathlib.Core.Path.{_≡_, sym, _∙_}
 use mathlib.Core.List.{List}
 use Prim.Native.Nat.{ℕ, _+_, _-_, _*_, _/_, _%_, _≤_, _<_}
 use native.Mathlib.Nat.{mod-lt, mod-one, mod-self, zero-mod, mul-mod-left, add-mod-right, mul-comm, div-add-mod', div-lt-iff-lt-mul}
 use native.Mathlib.Decide.{ℕ-discrete, decLt}
 use native.Mathlib.Omega.{arith}
 use lib.ListN.{length}
+use Rattle.span.proofs.Stretches.{stretch-end}
 use Rattle.cube.specs.declared.Shape.{Shape}
 use Rattle.cube.specs.declared.Line.{Line}
-use Rattle.cube.specs.Shapes.{Valid, cells, strideOf, linesOf, lineOf}
+use Rattle.cube.specs.Shapes.{Valid, cells, strideOf, linesOf}
 use Rattle.cube.specs.Cube.{CodeCube}
 use Rattle.cube.specs.Check.{Blocks, LinesRight}
 use Rattle.cube.proofs.Geometry.{line-found, line-every}
-use Rattle.cube.proofs.AxisRuns.{Begins, runFrom, lineBeside, lineAt-run, beside-is, layer-below, stretch-end, factor-below}
+use Rattle.cube.proofs.AxisRuns.{Begins, runFrom, lineBeside, lineAt-run, beside-is, layer-below, factor-below}
 use Rattle.line.specs.Line.{Codeword}
 use Rattle.line.specs.Run.{lineAt}
 use Rattle.line.proofs.Codeword.{codeword-cong}

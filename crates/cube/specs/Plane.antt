@@ -6,12 +6,6 @@ use lib.ListN.{getD}
 use Rattle.cube.specs.declared.Shape.{Shape}
 use Rattle.line.specs.Line.{Codeword}
 
--- `after` is `before` with n bytes of src from `from` on written from `to` on.
-pub record Copied (src before after : List ℕ) (from to n : ℕ) : Type 0 where
-  pub copied : (i : ℕ) → i < n → getD after (to + i) 0 ≡ getD src (from + i) 0
-  pub below : (p : ℕ) → p < to → getD after p 0 ≡ getD before p 0
-  pub above : (p : ℕ) → to + n ≤ p → getD after p 0 ≡ getD before p 0
-
 -- The rows of src, `from` bytes apart, stand in dst, `to` bytes apart.
 pub record RowsCopied (src dst : List ℕ) (rows width from to : ℕ) : Type 0 where
   pub copied : (b i : ℕ) → b < rows → i < width → getD dst (b * to + i) 0 ≡ getD src (b * from + i) 0

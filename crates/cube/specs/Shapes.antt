@@ -1,11 +1,9 @@
 -- The cube's shape (document 01, "Cube"): its limits, its sizes, its cells and the lines of its three axes.
-use mathlib.Core.Path.{_≡_}
-use mathlib.Core.Bool.{Bool, true, false, cond}
+use mathlib.Core.Bool.{Bool, false, cond}
 use Prim.Native.Nat.{ℕ, _+_, _-_, _*_, _/_, _%_, _≤_, _<_}
 use lib.Dec.{leb, ltb}
 use Rattle.cube.specs.declared.Shape.{Shape}
 use Rattle.cube.specs.declared.Sizes.{Sizes}
-use Rattle.cube.specs.declared.Line.{Line}
 use Rattle.cube.specs.declared.Fault.{Fault}
 use Rattle.cube.specs.declared.Fault.the-variants.{Dimension, PacketSize, CubeSize}
 use Rattle.cube.specs.declared.Refusal.the-variants.{Plain}

@@ -2,42 +2,25 @@
 use mathlib.Core.Path.{_≡_, refl, sym, ap, ap₂, subst, fun-ext, _∙_}
 use mathlib.Core.Bool.{true, false, false≢true, true≢false}
 use mathlib.Core.List.{List}
-use mathlib.Core.Logic.{_⊎_, _≢_, inl, inr, ⊎-elim}
+use mathlib.Core.Logic.{_⊎_, _≢_, inl, ⊎-elim}
 use Prim.Native.Nat.{ℕ, _+_, _-_, _*_, _≤_, _<_}
 use native.Mathlib.Decide.{ℕ-discrete, decLt}
 use native.Mathlib.Omega.{arith}
 use lib.ListN.{length, getD}
+use Rattle.span.specs.Span.{Copied}
 use Rattle.field.specs.Field.{Primitive}
 use Rattle.line.specs.declared.Run.{Run}
 use Rattle.line.specs.declared.Erasures.{Erasures}
 use Rattle.line.specs.Line.{Codeword, syndrome0, syndrome1}
 use Rattle.line.specs.Run.{lineAt, Inside, Off, Written, Solved, erasuresAt, Feeds, Encoded, EncodeOutcome}
-use Rattle.line.specs.Block.{part, front, places, Syndromes, Combined, ToEnd, Window, Stored, Placed, Copied}
+use Rattle.line.specs.Block.{part, front, places, Syndromes, Combined, ToEnd, Placed}
 use Rattle.line.proofs.Syndrome.{syndrome0-cong, syndrome1-cong}
 use Rattle.line.proofs.Geometry.{off-place}
 use Rattle.line.proofs.Runs.{written-solved, solved-codewords}
-use Rattle.line.proofs.Updated.{Updated}
 use Rattle.line.proofs.Solving.{combining-end}
 use Rattle.line.proofs.Parts.{off-first, off-next, part-inside, inside-size, line-part, off-part}
 
 -- ---- places copied
-
--- bytes copied one by one
-pub copied-byte : (src : List ℕ) (from to t : ℕ) → getD src (from + t) 0 ≡ getD src (from + (to + t - to)) 0
-copied-byte src from to t = ap (λ (p : ℕ). getD src p 0) (omega arith)
-
-pub updated-copied :
-    (from to n m : ℕ) {src before after : List ℕ} →
-    Updated (λ p x. getD src (from + (p - to)) 0) to (to + m) before after → m ≡ n → Copied from to n src before after
-updated-copied from to n m {src} {before} {after} u e =
-    record {
-      size = u .size;
-      copied =
-          λ t l. u .done (to + t) (omega arith) (omega arith) ∙ sym (copied-byte src from to t);
-      kept =
-          λ p o. u .kept p
-          (⊎-elim (λ (x : p < to). inl x) (λ (x : to + n ≤ p). inr (omega arith)) o);
-    }
 
 -- The places from lo up to hi of each line of `to` hold those of the lines of `from` in ds.
 pub record Between (lo hi : ℕ) (from to : Run) (ds before after : List ℕ) : Type 0 where
@@ -64,14 +47,14 @@ between-all b el eh =
 -- one more place, at either end
 pub between-more :
     {lo hi : ℕ} {from to : Run} {ds before mid after : List ℕ} → Between lo hi from to ds before mid → (low high j : ℕ) →
-    Copied (from .first + from .stride * j) (to .first + to .stride * j) (to .width) ds mid after →
+    Copied ds (from .first + from .stride * j) mid (to .first + to .stride * j) (to .width) after →
     to .width ≤ to .stride → (low ≤ j) × (j < high) × (low ≤ lo) × (hi ≤ high) →
     ((i : ℕ) → low ≤ i → i < high → i ≢ j → (lo ≤ i) × (i < hi)) → Between low high from to ds before after
 between-more {lo} {hi} {from} {to} {ds} {before} {mid} {after} b low high j c apart ends other =
     record {
       size = c .size ∙ b .size;
       kept =
-          λ p o. c .kept p (unfold Off in o j (ends .0) (ends .1))
+          λ p o. beside p (unfold Off in o j (ends .0) (ends .1))
           ∙ b .kept p (λ i l h. o i (omega arith) (omega arith));
       placed =
           λ t l i a h. elim (ℕ-discrete i j) [
@@ -80,22 +63,12 @@ between-more {lo} {hi} {from} {to} {ds} {before} {mid} {after} b low high j c ap
           ];
     }
   where
+    beside :
+        (p : ℕ) → (p < to .first + to .stride * j) ⊎ (to .first + to .stride * j + to .width ≤ p) → getD after p 0 ≡ getD mid p 0
+    beside p o = ⊎-elim (c .below p) (c .above p) o
+
     same : (t : ℕ) → t < to .width → (i : ℕ) → i ≢ j → lineAt after to t i ≡ lineAt mid to t i
-    same t l i ne = unfold lineAt Off in c .kept _ (off-place to i j t apart (omega arith) ne)
-
--- ---- strips
-
-pub stored-copied :
-    {src at : ℕ} {c ds before after : List ℕ} (w : ℕ) → w ≡ 64 → Window ds src c → Stored at c before after →
-    Copied src at w ds before after
-stored-copied {src} {at} {c} {ds} {before} {after} w e window stored =
-    record {
-      size = stored .size;
-      copied = λ t l. stored .written t (omega arith) ∙ window .bytes t (omega arith);
-      kept =
-          λ p o. stored .kept p
-          (⊎-elim (λ (x : p < at). inl x) (λ (x : at + w ≤ p). inr (omega arith)) o);
-    }
+    same t l i ne = unfold lineAt Off in beside _ (off-place to i j t apart (omega arith) ne)
 
 -- ---- codewords
 

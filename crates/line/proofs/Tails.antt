@@ -5,11 +5,12 @@ use Prim.Native.Nat.{ℕ, _+_, _*_, _≤_, _<_}
 use native.Mathlib.Nat.{mul-add}
 use native.Mathlib.Omega.{arith}
 use lib.ListN.{length, getD, replicate, length-replicate, getD-replicate}
+use Rattle.span.specs.Span.{Piece}
 use Rattle.field.specs.Field.{add, xtime}
 use Rattle.field.proofs.Addition.{add-comm}
 use Rattle.line.specs.declared.Run.{Run}
 use Rattle.line.specs.Run.{lineAt}
-use Rattle.line.specs.Block.{tail0, tail1, Tails, Syndromes, One, Four, Window, Step, horner0, horner1}
+use Rattle.line.specs.Block.{tail0, tail1, Tails, Syndromes, One, Four, Step, horner0, horner1}
 use Rattle.line.proofs.Syndrome.{tail0-end, tail1-end, tail0-step, tail1-step, tail0-whole, tail1-whole}
 
 step0 : (c : ℕ → ℕ) (n i next : ℕ) → next ≡ i + 1 → i < n → add (tail0 c n next) (c i) ≡ tail0 c n i
@@ -102,7 +103,7 @@ module _ {m r : ℕ} {run : Run} {left next : ℕ} {s a0 a1 : List ℕ} (fits : 
 -- Horner's step by the bytes of the place `left`, for 64 lines
 pub step-one :
     {r : ℕ} {run : Run} {left : ℕ} {s c a0 a1 b0 b1 : List ℕ} → run .width ≡ 64 →
-    Window s (run .first + run .stride * left) c → Step r c a0 a1 b0 b1 → One r run left s a0 a1 b0 b1
+    Piece s (run .first + run .stride * left) 64 c → Step r c a0 a1 b0 b1 → One r run left s a0 a1 b0 b1
 unfolding lineAt
 step-one {r} {a0 = a0} {a1 = a1} e w st =
     record {

@@ -133,11 +133,6 @@ pub record Combining (r : ℕ) (read run : Run) (e : Erasures) (before after : L
 
 -- ---- strips of 64 bytes
 
--- c holds the 64 bytes of s from `at` on.
-pub record Window (s : List ℕ) (at : ℕ) (c : List ℕ) : Type 0 where
-  pub size : length c ≡ 64
-  pub bytes : (t : ℕ) → t < 64 → getD c t 0 ≡ getD s (at + t) 0
-
 -- The 64 bytes c are written from `at` on.
 pub record Stored (at : ℕ) (c before after : List ℕ) : Type 0 where
   pub size : length after ≡ length before
@@ -157,9 +152,3 @@ pub record Placed (from to : Run) (ds before after : List ℕ) : Type 0 where
   pub kept : (p : ℕ) → ((i : ℕ) → i < from .len → Off to i p) → getD after p 0 ≡ getD before p 0
   pub placed :
       (t : ℕ) → t < to .width → (i : ℕ) → i < from .len → lineAt after to t i ≡ lineAt ds from t i
-
--- n bytes of src from `from` on are copied to dst from `to` on.
-pub record Copied (from to n : ℕ) (src before after : List ℕ) : Type 0 where
-  pub size : length after ≡ length before
-  pub copied : (t : ℕ) → t < n → getD after (to + t) 0 ≡ getD src (from + t) 0
-  pub kept : (p : ℕ) → (p < to) ⊎ (to + n ≤ p) → getD after p 0 ≡ getD before p 0

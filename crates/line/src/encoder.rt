@@ -5,11 +5,11 @@ use crate::Run;
 use crate::block;
 use crate::strip;
 ghost use mathlib.Core.Path.{_≡_};
-ghost use Prim.Native.Nat.{_+_, _-_, _<_, _≤_};
+ghost use Prim.Native.Nat.{_+_, _-_, _≤_};
 ghost use lib.ListN.{length, replicate};
 ghost use Rattle.field.specs.Field.{Primitive};
 ghost use Rattle.line.specs.Run.{Inside, Feeds, Encoded, erasuresAt};
-ghost use Rattle.line.specs.Block.{Syndromes, Placed, Copied};
+ghost use Rattle.line.specs.Block.{part, Syndromes, Placed};
 
 // The codewords of every line of the run `to`. Strips pay where few places are read side by side; else the places are copied first.
 pub(crate) fn encode_blocks(
@@ -48,7 +48,7 @@ fn encode_strips(data: &[u8], s: &mut [u8], reduction: u8, from: Run, to: Run, e
 // The 64 lines from line a on.
 fn encode_strip(data: &[u8], s: &mut [u8], reduction: u8, from: Run, to: Run, a: usize, e: Erasures)
     requires { ⌜ (Primitive reduction) × (Inside to (length (now s))) × (Feeds from to (length (now «data»))) × (e ≡ erasuresAt reduction (to .len - 2) (to .len - 1)) × (a + 64 ≤ to .width) ⌝ }
-    ensures { λ r. ⌜ Encoded reduction (Rattle.line.specs.Block.part from a 64) (Rattle.line.specs.Block.part to a 64) (now («data» .entry)) (now (s .entry)) (now (s .exit)) ⌝ }
+    ensures { λ r. ⌜ Encoded reduction (part from a 64) (part to a 64) (now («data» .entry)) (now (s .entry)) (now (s .exit)) ⌝ }
 {
     let source = block::lines_from(from, a, 64);
     let target = block::lines_from(to, a, 64);
@@ -74,8 +74,12 @@ fn place_strip(
     let mut left = from.len;
     while 0 < left {
         left -= 1;
-        let c = strip::load(data, from.first + from.stride * left);
-        strip::store(s, to.first + to.stride * left, c);
+        let c = span::copy_strip(
+            data,
+            s,
+            from.first + from.stride * left,
+            to.first + to.stride * left,
+        );
         strip::step(s0, s1, reduction, c);
     }
 }
@@ -88,7 +92,7 @@ fn place(data: &[u8], s: &mut [u8], from: Run, to: Run)
     let places = from.len;
     let mut i = 0;
     while i < places {
-        copy(
+        span::copy(
             data,
             s,
             from.first + from.stride * i,
@@ -96,17 +100,5 @@ fn place(data: &[u8], s: &mut [u8], from: Run, to: Run)
             to.width,
         );
         i += 1;
-    }
-}
-
-// Copies n bytes of data from `from` on to s from `to` on.
-fn copy(data: &[u8], s: &mut [u8], from: usize, to: usize, n: usize)
-    requires { ⌜ (from + n ≤ length (now «data»)) × (to + n ≤ length (now s)) ⌝ }
-    ensures { λ r. ⌜ Copied from to n (now («data» .entry)) (now (s .entry)) (now (s .exit)) ⌝ }
-{
-    let mut t = 0;
-    while t < n {
-        s[to + t] = data[from + t];
-        t += 1;
     }
 }

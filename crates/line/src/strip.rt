@@ -5,10 +5,11 @@ use crate::Run;
 ghost use mathlib.Core.Path.{_≡_};
 ghost use Prim.Native.Nat.{ℕ, _+_, _<_, _≤_};
 ghost use lib.ListN.{length, getD, replicate};
+ghost use Rattle.span.specs.Span.{Piece};
 ghost use Rattle.field.specs.Field.{add, mul};
 ghost use Rattle.line.specs.Line.{Codeword};
 ghost use Rattle.line.specs.Run.{Inside, lineAt};
-ghost use Rattle.line.specs.Block.{Decides, Window, Stored, Step, Syndromes, Combined, Combining, AllZero};
+ghost use Rattle.line.specs.Block.{Decides, Stored, Step, Syndromes, Combined, Combining, AllZero};
 
 // Writes both erasures of each line of `run` from the syndromes of the lines of `read`.
 pub(crate) fn solve(s: &mut [u8], reduction: u8, read: Run, run: Run, e: Erasures)
@@ -48,7 +49,7 @@ fn syndromes(s: &[u8], s0: &mut [u8; 64], s1: &mut [u8; 64], reduction: u8, run:
 // The 64 bytes from `at` on.
 pub(crate) fn load(s: &[u8], at: usize) -> [u8; 64]
     requires { ⌜ at + 64 ≤ length (now s) ⌝ }
-    ensures { λ r. ⌜ Window (now (s .entry)) at r ⌝ }
+    ensures { λ r. ⌜ Piece (now (s .entry)) at 64 r ⌝ }
 {
     let mut c = [0u8; 64];
     let mut t = 0;

@@ -16,7 +16,7 @@ use Rattle.cube.specs.declared.Measured.{Measured}
 use Rattle.cube.specs.declared.Measured.the-variants.{Fits, Misfit}
 use Rattle.cube.specs.declared.Answer.{Answer}
 use Rattle.cube.specs.declared.Answer.the-variants.{Done, Refused}
-use Rattle.cube.specs.Shapes.{Valid, both, within, cells, sizes, measured}
+use Rattle.cube.specs.Shapes.{Valid, within, cells, sizes, measured}
 use Rattle.cube.proofs.Valid.{both-parts, within-parts, measured-fits}
 use Rattle.mend.specs.Mend.{cubeChecked, passChecked, flagsChecked, correctChecked}
 

@@ -1,5 +1,5 @@
 -- One pass, run by run: `Through n` is the pass of an axis after the runs of its first n lines.
-use mathlib.Core.Path.{_≡_, refl, sym, ap, _∙_}
+use mathlib.Core.Path.{_≡_, refl, sym, _∙_}
 use mathlib.Core.List.{List}
 use mathlib.Core.Logic.{inl, inr}
 use Prim.Native.Nat.{ℕ, _+_, _-_, _*_, _≤_, _<_}
@@ -10,12 +10,12 @@ use lib.ListN.{length, getD}
 use Rattle.cube.specs.declared.Shape.{Shape}
 use Rattle.cube.specs.declared.Line.{Line}
 use Rattle.cube.specs.declared.LineAnswer.the-variants.{Found}
-use Rattle.cube.specs.Shapes.{Valid, linesOf, firstOf, lineOf}
+use Rattle.cube.specs.Shapes.{linesOf, firstOf, lineOf}
 use Rattle.cube.specs.Cube.{layer, layerLine}
-use Rattle.cube.proofs.AxisRuns.{Located, located, Begins, runFrom, lineBeside, lineAt-run, beside-is, layer-below, run-end}
+use Rattle.cube.proofs.AxisRuns.{located, Begins, runFrom, lineBeside, lineAt-run, beside-is, layer-below, run-end}
 use Rattle.mend.specs.Mend.{Pass}
-use Rattle.line.specs.Line.{corrected, syndrome0, syndrome1}
-use Rattle.line.specs.Run.{lineAt, Off, Corrected}
+use Rattle.line.specs.Line.{corrected}
+use Rattle.line.specs.Run.{Off, Corrected}
 use Rattle.line.proofs.Syndrome.{syndrome0-cong, syndrome1-cong}
 
 pub corrected-cong : (r n : ℕ) (x y : ℕ → ℕ) → ((i : ℕ) → i < n → x i ≡ y i) → (i : ℕ) → i < n → corrected r n x i ≡ corrected r n y i

@@ -15,15 +15,14 @@ use Rattle.line.proofs.Error.{corrected-codeword-same, corrected-one}
 use Rattle.cube.specs.declared.Shape.{Shape}
 use Rattle.cube.specs.declared.Line.{Line}
 use Rattle.cube.specs.declared.LineAnswer.the-variants.{Found}
-use Rattle.cube.specs.declared.Refusal.{Refusal}
 use Rattle.cube.specs.declared.Answer.{Answer}
 use Rattle.cube.specs.declared.Answer.the-variants.{Done, Refused}
 use Rattle.cube.specs.Shapes.{Valid, cells, strideOf, lengthOf, lineOf}
 use Rattle.cube.specs.Cube.{layer, layerLine, CodeCube}
 use Rattle.cube.proofs.Geometry.{placeAt-lt, strideOf-pos, lengthOf-low, On, placeOn, on-place, line-through, line-of, line-found, line-length-high}
-use Rattle.cube.proofs.AxisRuns.{Located, located}
+use Rattle.cube.proofs.AxisRuns.{located}
 use Rattle.mend.specs.Mend.{Pass, Passes, PassOutcome, CorrectOutcome, refused, mended, uncorrected}
-use Rattle.mend.proofs.Checks.{refused-done, done-refused, PassReady, pass-ready, Ready, ready}
+use Rattle.mend.proofs.Checks.{refused-done, done-refused, pass-ready, ready}
 
 module _ (sh : Shape) (v : Valid sh) (axis : ℕ) (low : 1 ≤ axis) (high : axis ≤ 3) where
   -- lists of W bytes a cell that agree on every line of an axis in every layer are equal

@@ -8,13 +8,14 @@ use native.Mathlib.Nat.{add-zero, add-assoc, add-mul, mul-assoc, mul-comm, mul-l
 use native.Mathlib.Decide.{ℕ-discrete}
 use native.Mathlib.Omega.{arith}
 use lib.ListN.{length, getD}
+use Rattle.span.proofs.Stretches.{stretch-end}
 use Rattle.cube.specs.declared.Shape.{Shape}
 use Rattle.cube.specs.declared.Line.{Line}
 use Rattle.cube.specs.declared.LineAnswer.the-variants.{Found}
 use Rattle.cube.specs.Shapes.{Valid, cells, strideOf, lengthOf, linesOf, firstOf, lineOf}
 use Rattle.cube.specs.Cube.{layer, layerLine}
-use Rattle.cube.specs.Plane.{Copied}
-use Rattle.cube.proofs.AxisRuns.{located, stretch-end}
+use Rattle.span.specs.Span.{Copied}
+use Rattle.cube.proofs.AxisRuns.{located}
 use Rattle.mend.specs.Mend.{Pass}
 use Rattle.mend.proofs.Correction.{corrected-cong}
 use Rattle.line.specs.declared.Run.{Run}
@@ -91,7 +92,7 @@ rows-all r sh n xs ys le h =
     }
 
 module _ (r w l1 m : ℕ) (xs ys us zs : List ℕ) (h : RowsThrough r w l1 m xs ys)
-    (size : length us ≡ length ys) (copy : Copied xs ys us (m * (l1 * w)) (m * (l1 * w)) (l1 * w)) (run : Corrected r (rowRun w l1 m) us zs) where
+    (copy : Copied xs (m * (l1 * w)) ys (m * (l1 * w)) (l1 * w) us) (run : Corrected r (rowRun w l1 m) us zs) where
   -- the rows before row m are kept
   earlier-kept : (p : ℕ) → p < m * (l1 * w) → getD zs p 0 ≡ getD ys p 0
   unfolding rowRun Off
@@ -109,7 +110,7 @@ module _ (r w l1 m : ℕ) (xs ys us zs : List ℕ) (h : RowsThrough r w l1 m xs 
   unfolding rowRun
   rows-more =
       record {
-        size = run .size ∙ size ∙ h .size;
+        size = run .size ∙ copy .size ∙ h .size;
         rows = λ k less t i lt li.
             elim (ℕ-discrete k m) [
               | yes e ↦ rw e (run .lines t lt i li ∙ corrected-cong r l1 _ _ (λ j lj. fresh t j lt lj) i li)

@@ -1,6 +1,6 @@
 -- Mending (document 01, "Mending"): single-error correction of every line, axis by axis, and what the calls answer and leave for every input.
 use mathlib.Core.Path.{_≡_}
-use mathlib.Core.Bool.{Bool, true, cond}
+use mathlib.Core.Bool.{cond}
 use mathlib.Core.List.{List}
 use Prim.Native.Nat.{ℕ, _+_, _*_, _<_}
 use lib.Dec.{eqb}

@@ -3,11 +3,10 @@ use cube::LineAnswer;
 use cube::Shape;
 use line::Run;
 ghost use mathlib.Core.Path.{_≡_};
-ghost use Prim.Native.Nat.{_+_, _*_, _≤_};
+ghost use Prim.Native.Nat.{_*_, _≤_};
 ghost use lib.ListN.{length, replicate};
 ghost use Rattle.field.specs.Field.{reduction};
 ghost use Rattle.cube.specs.Shapes.{Valid, cells};
-ghost use Rattle.cube.specs.Plane.{Copied};
 ghost use Rattle.mend.specs.Mend.{Pass};
 
 // The pass by axis 1 from one cube into another: each row is corrected as soon as it is copied, while it is in the cache.
@@ -22,7 +21,7 @@ pub(crate) fn first_pass(cube: &[u8], second: &mut [u8], sh: Shape)
     let mut m = 0;
     while m < rows {
         let at = m * row;
-        copy(cube, second, at, row);
+        span::copy(cube, second, at, at, row);
         let run = Run {
             first: at,
             stride: w,
@@ -55,18 +54,6 @@ pub(crate) fn pass(cube: &mut [u8], sh: Shape, axis: usize)
         };
         line::correct(cube, run);
         m += stride;
-    }
-}
-
-// Copies n bytes from `at` on to the same place.
-fn copy(from: &[u8], to: &mut [u8], at: usize, n: usize)
-    requires { ⌜ (at + n ≤ length (now from)) × (at + n ≤ length (now to)) ⌝ }
-    ensures { λ r. ⌜ Copied (now (from .entry)) (now (to .entry)) (now (to .exit)) at at n ⌝ }
-{
-    let mut i = 0;
-    while i < n {
-        to[at + i] = from[at + i];
-        i += 1;
     }
 }
 

@@ -11,6 +11,8 @@ use lib.Dec.{eqb, leb}
 use lib.ListN.{length, getD, set, replicate, length-set, length-replicate, getD-replicate}
 use lib.Seq.{getD-set-same, getD-set-other}
 use borrow.Author.Tests.{eq-eqb, ne-eqb}
+use Rattle.span.proofs.Stretches.{stretch-end}
+use Rattle.span.specs.Span.{Copied}
 use Rattle.cube.specs.declared.Shape.{Shape}
 use Rattle.cube.specs.Shapes.{both, cells}
 use Rattle.cube.specs.Cube.{layer}
@@ -18,14 +20,14 @@ use Rattle.cube.specs.Flags.{missing, flagsValid}
 use Rattle.cube.proofs.Valid.{both-parts, both-true}
 use Rattle.stopping.specs.Stopping.{number}
 use Rattle.stopping.proofs.Number.{true-or-false, not-true-false, number-nil, number-le}
-use Rattle.receiver.specs.Runs.{Copied, Compared}
+use Rattle.receiver.specs.Runs.{Compared}
 use Rattle.receiver.specs.Receive.{startOf, InRange, cellOf, byteOf, Conflicting, among, repeatsOf, Placed}
 use Rattle.receiver.specs.declared.placing.Arrival.{Arrival}
 use Rattle.receiver.specs.declared.placing.Arrival.the-variants.{Agrees, Other}
 use Rattle.receiver.specs.declared.placing.Placing.{Placing}
 use Rattle.receiver.specs.declared.placing.Placing.the-variants.{Repeats, Differs}
 use Rattle.receiver.specs.Arrivals.{Arrived, agrees, other, Placement}
-use Rattle.receiver.proofs.Bytes.{clash, stretch-end}
+use Rattle.receiver.proofs.Bytes.{clash}
 use Rattle.receiver.proofs.Packets.{cellOf-lt, among-earlier, earlier-among}
 
 -- ---- flags

@@ -1,75 +1,23 @@
--- Runs of bytes copied, compared and tested, one more at a time.
+-- Runs of bytes compared and tested, one more at a time.
 use mathlib.Core.Path.{_≡_, refl, sym, ap, _∙_}
 use mathlib.Core.List.{List}
 use mathlib.Core.Logic.{_≢_}
-use Prim.Native.Nat.{ℕ, zero, _+_, _-_, _*_, _/_, _≤_, _<_}
-use native.Mathlib.Nat.{mul-le-mul-right}
-use native.Mathlib.Decide.{ℕ-discrete, decLe}
+use Prim.Native.Nat.{ℕ, _+_, _/_, _<_}
+use native.Mathlib.Decide.{ℕ-discrete}
 use native.Mathlib.Omega.{arith}
 use lib.Arith.{bin-ind}
 use lib.Bits.{bitOr, bitXor, or-step, or-zero-l, xor-self}
 use lib.Dec.{eqb}
-use lib.ListN.{length, getD, set, replicate, length-set, length-replicate, getD-replicate}
+use lib.ListN.{length, getD, set, replicate, length-replicate, getD-replicate}
 use lib.Seq.{getD-set-same, getD-set-other, ext-getD}
 use borrow.Author.Tests.{eqb-true, eqb-false}
 use Rattle.field.specs.Field.{add}
 use Rattle.field.proofs.Addition.{add-eq-zero}
-use Rattle.receiver.specs.Runs.{Copied, Window, Compared, Zeros}
+use Rattle.receiver.specs.Runs.{Compared, Zeros}
 
 -- from two constructors that are said to be one anything follows
 pub clash : {X : Type 0} → _≡_ {A = ℕ} 0 1 → X
 clash z = absurd (omega arith)
-
--- the stretch from a * k on ends at or before n * k
-pub stretch-end : (a n k : ℕ) → a < n → a * k + k ≤ n * k
-stretch-end a n k l = omega (arith, mul-le-mul-right k l)
-
-pub copied-none : (src dst : List ℕ) (from to : ℕ) → Copied src from dst to 0 dst
-copied-none src dst from to = record { size = refl; copied = λ i l. absurd (omega arith); below = λ p l. refl; above = λ p l. refl }
-
-pub copied-more : (src before after : List ℕ) (from to n p v : ℕ) → p ≡ to + n → v ≡ getD src (from + n) 0 → p < length after
-    → Copied src from before to n after → Copied src from before to (n + 1) (set after p v)
-copied-more src before after from to n p v at byte room h =
-    record {
-      size = length-set after p v ∙ h .size;
-      copied = λ i l. elim (ℕ-discrete i n) [
-        | yes e ↦
-            let here : to + i ≡ p = omega arith in
-            rw here (getD-set-same after p v 0 room) ∙ byte ∙ ap (λ (k : ℕ). getD src (from + k) 0) (sym e)
-        | no ne ↦ other (to + i) (omega arith) ∙ h .copied i (omega arith)
-      ];
-      below = λ q l. other q (omega arith) ∙ h .below q l;
-      above = λ q l. other q (omega arith) ∙ h .above q (omega arith);
-    }
-  where
-    other : (q : ℕ) → (q ≡ p → ⊥) → getD (set after p v) q 0 ≡ getD after q 0
-    other q ne = getD-set-other after p q v 0 ne
-
-pub copied-window : {src before c : List ℕ} {from : ℕ} → length before ≡ 64 → Copied src from before 0 64 c → Window src from c
-copied-window {src} {before} {c} {from} size h =
-    record {
-      size = h .size ∙ size;
-      bytes = λ i l. let same : i ≡ 0 + i = omega arith in ap (λ (k : ℕ). getD c k 0) same ∙ h .copied i l;
-    }
-
--- 64 bytes more, which may begin before the end of those that are copied
-pub copied-strip : {src before mid after c : List ℕ} {from to n : ℕ} (a : ℕ) → Copied src from before to n mid → Window src (from + a) c
-    → Copied c 0 mid (to + a) 64 after → a ≤ n → n ≤ a + 64 → Copied src from before to (a + 64) after
-copied-strip {src} {before} {mid} {after} {c} {from} {to} {n} a h w s starts ends =
-    record {
-      size = s .size ∙ h .size;
-      copied = λ i l. elim (decLe a i) [
-        | yes y ↦
-            let at : to + a + (i - a) ≡ to + i = omega arith in
-            let of : from + a + (i - a) ≡ from + i = omega arith in
-            let same : 0 + (i - a) ≡ i - a = omega arith in
-            ap (λ (k : ℕ). getD after k 0) (sym at) ∙ s .copied (i - a) (omega arith) ∙ ap (λ (k : ℕ). getD c k 0) same
-            ∙ w .bytes (i - a) (omega arith) ∙ ap (λ (k : ℕ). getD src k 0) of
-        | no y ↦ s .below (to + i) (omega arith) ∙ h .copied i (omega arith)
-      ];
-      below = λ p l. s .below p (omega arith) ∙ h .below p l;
-      above = λ p l. s .above p (omega arith) ∙ h .above p (omega arith);
-    }
 
 -- ---- bytes gathered by or
 

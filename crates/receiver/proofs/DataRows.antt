@@ -9,6 +9,8 @@ use native.Mathlib.Omega.{arith}
 use lib.Arith.{digits-lt, digits-div, digits-mod}
 use lib.ListN.{length, getD, take, drop, replicate, length-append, length-replicate, getD-replicate, length-drop, take-append-drop, List·getD-append}
 use lib.Seq.{ext-getD, getD-append-add, getD-take, getD-drop, length-take-le}
+use Rattle.span.proofs.Stretches.{stretch-end}
+use Rattle.span.specs.Span.{Copied}
 use Rattle.cube.specs.declared.Shape.{Shape}
 use Rattle.cube.specs.Shapes.{Valid, cells, capacity, cell}
 use Rattle.cube.specs.Cube.{layer, HoldsData}
@@ -16,9 +18,8 @@ use Rattle.cube.proofs.Geometry.{cell-lt-cells, low-lt}
 use Rattle.pack.specs.Packs.{word, wordBytes, dataString}
 use Rattle.receiver.specs.declared.file.Opening.the-variants.{Held, Bad}
 use Rattle.receiver.specs.Receive.{long, later}
-use Rattle.receiver.specs.Runs.{Copied, Zeros, Clipped}
+use Rattle.receiver.specs.Runs.{Zeros, Clipped}
 use Rattle.receiver.specs.DataBytes.{rowSize, rowsOf, rowStart, dataOf, heldLength, Clear, FileCopied, Opened, held, bad}
-use Rattle.receiver.proofs.Bytes.{stretch-end}
 
 -- ---- sizes
 

@@ -1,22 +1,10 @@
--- Runs of bytes of a slice: copied, compared, tested for 00h.
+-- Runs of bytes of a slice: compared, tested for 00h.
 use mathlib.Core.Path.{_≡_}
 use mathlib.Core.Bool.{Bool, true, false}
 use mathlib.Core.List.{List}
 use mathlib.Core.Logic.{_≢_}
 use Prim.Native.Nat.{ℕ, _+_, _≤_, _<_}
-use lib.ListN.{length, getD}
-
--- n bytes from `from` on are copied to `to` on, and every other byte is kept
-pub record Copied (src : List ℕ) (from : ℕ) (before : List ℕ) (to n : ℕ) (after : List ℕ) : Type 0 where
-  pub size : length after ≡ length before
-  pub copied : (i : ℕ) → i < n → getD after (to + i) 0 ≡ getD src (from + i) 0
-  pub below : (p : ℕ) → p < to → getD after p 0 ≡ getD before p 0
-  pub above : (p : ℕ) → to + n ≤ p → getD after p 0 ≡ getD before p 0
-
--- c is the 64 bytes from `from` on
-pub record Window (src : List ℕ) (from : ℕ) (c : List ℕ) : Type 0 where
-  pub size : length c ≡ 64
-  pub bytes : (i : ℕ) → i < 64 → getD c i 0 ≡ getD src (from + i) 0
+use lib.ListN.{getD}
 
 -- whether n bytes of two slices agree
 pub record Compared (xs : List ℕ) (from : ℕ) (ys : List ℕ) (to n : ℕ) (r : Bool) : Type 0 where

@@ -1,5 +1,4 @@
 // The file in a code cube: its length, the zeros behind it, and its bytes, row by row of data cells.
-use crate::runs::copy;
 use crate::runs::wide;
 use crate::runs::zeros;
 use cube::Shape;
@@ -98,7 +97,7 @@ fn copy_row(cube: &[u8], buffer: &mut [u8], sh: Shape, n: usize, row: usize)
     if end <= start {
         return;
     }
-    copy(
+    span::copy(
         cube,
         buffer,
         row_start(sh, row) + start,

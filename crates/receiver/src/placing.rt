@@ -1,5 +1,4 @@
 // Placing packets: every cell starts missing, a packet makes its cell known, a later copy must agree.
-use crate::runs::copy;
 use crate::runs::same;
 use crate::runs::set_all;
 use crate::runs::wide;
@@ -105,7 +104,7 @@ fn place_packet(air: &[u8], cube: &mut [u8], flags: &mut [u8], sh: Shape, i: usi
     let from = start_of(sh, i) + 3;
     let m = cell_of(air, sh, i);
     if flags[m] == 1 {
-        copy(air, cube, from, m * w, w);
+        span::copy(air, cube, from, m * w, w);
         flags[m] = 0;
         return Arrival::Agrees(0);
     }

@@ -4,12 +4,12 @@ use mathlib.Core.Bool.{Bool, true, false}
 use mathlib.Core.List.{List, [], _∷_, _++_}
 use Prim.Native.Nat.{ℕ, zero, suc, _+_, _-_, _≤_, _<_}
 use native.Mathlib.Nat.{add-zero, sub-self}
-use native.Mathlib.Numerals.{add-one}
 use native.Mathlib.Omega.{arith}
 use lib.Dec.{ltb}
 use lib.ListN.{length, getD, set, take, drop, replicate, length-append, length-set, length-drop, length-replicate, List·getD-append}
-use lib.Seq.{length-take-le, take-suc, getD-drop, getD-append-add, getD-set-same, getD-set-other, ext-getD}
+use lib.Seq.{length-take-le, getD-take, getD-drop, getD-append-add, getD-set-same, getD-set-other, ext-getD}
 use borrow.Author.Tests.{ltb-true, ltb-false}
+use Rattle.span.specs.Span.{Copied}
 use Rattle.writer.specs.Put.{Put}
 
 pub put-none : (s : List ℕ) (at : ℕ) → Put s at [] s
@@ -92,18 +92,21 @@ pub put-five : (s : List ℕ) (at a b c d e : ℕ) → at + 5 ≤ length s
     → Put s at (a ∷ b ∷ c ∷ d ∷ e ∷ []) (set (set (set (set (set s at a) (at + 1) b) (at + 2) c) (at + 3) d) (at + 4) e)
 put-five s at a b c d e h = put-more s at (a ∷ b ∷ c ∷ d ∷ []) _ (at + 4) e (put-four s at a b c d (omega arith)) refl (omega arith)
 
--- ---- one byte more of a copy, and of a run of 00h
+-- ---- a copy, and one byte more of a run of 00h
 
-pub copy-more : (s out from : List ℕ) (start to count i : ℕ) → Put s to (take i (drop start from)) out
-    → i < count → start + count ≤ length from → to + count ≤ length s
-    → Put s to (take (i + 1) (drop start from)) (set out (to + i) (getD from (start + i) 0))
-copy-more s out from start to count i first h k l =
-    let n = length-drop start from in
-    let inside : i < length (drop start from) = omega arith in
-    let here : getD (drop start from) i 0 ≡ getD from (start + i) 0 = getD-drop start from i 0 in
-    let size : length (take i (drop start from)) ≡ i = length-take-le i (drop start from) (omega arith) in
-    rw (add-one i, take-suc (drop start from) i 0 inside, here)
-    (put-more s to (take i (drop start from)) out (to + i) (getD from (start + i) 0) first (omega arith) (omega arith))
+pub copied-put : (s out src : List ℕ) (from to n : ℕ) → from + n ≤ length src → Copied src from s to n out
+    → Put s to (take n (drop from src)) out
+copied-put s out src from to n inside c =
+    let size : length (take n (drop from src)) ≡ n = length-take-le n (drop from src) (omega (arith, length-drop from src)) in
+    record {
+      size = c .size;
+      written =
+          λ (k : ℕ) (h : k < length (take n (drop from src))).
+          let l : k < n = omega arith in
+          c .copied k l ∙ sym (getD-take n (drop from src) k 0 l ∙ getD-drop from src k 0);
+      below = c .below;
+      above = λ (k : ℕ) (h : to + length (take n (drop from src)) ≤ k). c .above k (omega arith);
+    }
 
 replicate-snoc : (k v : ℕ) → replicate (suc k) v ≡ replicate k v ++ (v ∷ [])
 replicate-snoc zero v = refl
@@ -115,10 +118,6 @@ clear-more s out from i first h k =
     let e : i + 1 - from ≡ suc (i - from) = omega arith in
     let size : length {A = ℕ} (replicate (i - from) 0) ≡ i - from = length-replicate (i - from) 0 in
     rw (e, replicate-snoc (i - from) 0) (put-more s from (replicate (i - from) 0) out i 0 first (omega arith) k)
-
-pub copy-all : (s out from : List ℕ) (start to count i : ℕ) → Put s to (take i (drop start from)) out → i ≤ count → count ≤ i
-    → Put s to (take count (drop start from)) out
-copy-all s out from start to count i p h k = let e : count ≡ i = omega arith in rw e p
 
 pub clear-none : (s : List ℕ) (from : ℕ) → Put s from (replicate (from - from) 0) s
 clear-none s from = rw (sub-self from) (put-none s from)

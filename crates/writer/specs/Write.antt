@@ -17,7 +17,7 @@ use Rattle.cube.specs.Cube.{CodeCube, HoldsData}
 use Rattle.pack.specs.declared.JobRead.{JobRead}
 use Rattle.pack.specs.declared.JobRead.the-variants.{Job, NoJob}
 use Rattle.pack.specs.Packs.{airPack, upFrom, dataString}
-use Rattle.pack.specs.Reading.{shapeOf, jobOf}
+use Rattle.pack.specs.Reading.{jobOf}
 
 -- "17 + cells × (3 + W) bytes"
 unfoldable pub packSize : Shape → ℕ

@@ -1,6 +1,5 @@
 // The data string: the file's length in four bytes, low first, the file, then 00h.
 use crate::place::clear;
-use crate::place::copy;
 use crate::place::put_word;
 ghost use mathlib.Core.Path.{_≡_};
 ghost use mathlib.Core.List.{_++_};
@@ -16,6 +15,6 @@ pub(crate) fn build(file: &[u8], out: &mut [u8])
 {
     let n = file.len();
     put_word(out, 0, n);
-    copy(file, 0, out, 4, n);
+    span::copy(file, out, 0, 4, n);
     clear(out, 4 + n);
 }

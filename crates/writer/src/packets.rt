@@ -1,5 +1,4 @@
 // The air pack of every cell of a cube, in cell order.
-use crate::place::copy;
 use crate::place::put_word;
 use cube::Shape;
 ghost use mathlib.Core.Path.{_≡_};
@@ -54,7 +53,7 @@ fn write_packet(cube: &[u8], out: &mut [u8], sh: Shape, n: usize, at: usize)
 {
     let w = sh.w;
     write_coordinates(out, sh, n, at);
-    copy(cube, n * w, out, at + 3, w);
+    span::copy(cube, out, n * w, at + 3, w);
 }
 
 fn write_coordinates(out: &mut [u8], sh: Shape, n: usize, at: usize)

@@ -1,7 +1,6 @@
 // Bytes put at a place of a slice.
-
 ghost use Prim.Native.Nat.{_+_, _-_, _≤_};
-ghost use lib.ListN.{length, take, drop, replicate};
+ghost use lib.ListN.{length, replicate};
 ghost use Rattle.pack.specs.Packs.{wordBytes};
 ghost use Rattle.writer.specs.Put.{Put};
 
@@ -14,18 +13,6 @@ pub(crate) fn put_word(out: &mut [u8], at: usize, n: usize)
     out[at + 1] = (n / 256 % 256) as u8;
     out[at + 2] = (n / 65536 % 256) as u8;
     out[at + 3] = (n / 16777216 % 256) as u8;
-}
-
-// So many bytes of another slice, from `start` on.
-pub(crate) fn copy(from: &[u8], start: usize, out: &mut [u8], to: usize, count: usize)
-    requires { ⌜ (start + count ≤ length (now from)) × (to + count ≤ length (now out)) ⌝ }
-    ensures { λ _. ⌜ Put (now (out .entry)) to (take count (drop start (now (from .entry)))) (now (out .exit)) ⌝ }
-{
-    let mut i = 0;
-    while i < count {
-        out[to + i] = from[start + i];
-        i += 1;
-    }
 }
 
 // 00h to the end.

@@ -1,6 +1,6 @@
 -- `mend::correct_axis` meets its contract. Assumes nothing.
-use mathlib.Core.Path.{_≡_, refl, sym, ap, _∙_}
-use Rattle.mend.proofs.Checks.{refused-done, done-refused, PassReady, pass-ready}
+use mathlib.Core.Path.{refl, sym, _∙_}
+use Rattle.mend.proofs.Checks.{refused-done, done-refused, pass-ready}
 use borrow.Author.Needs.{needs}
 use Rattle.mend.proofs.correct_axis.Statement.{statement}
 use Rattle.mend.proofs.correct_axis.Tie as tie

@@ -7,7 +7,7 @@ use lib.ListN.{length, replicate}
 use Rattle.field.specs.Field.{reduction}
 use Rattle.cube.specs.declared.Answer.the-variants.{Done}
 use Rattle.cube.specs.Shapes.{measured}
-use Rattle.mend.specs.Mend.{Passes, correctChecked, CorrectOutcome, refused, mended, uncorrected}
+use Rattle.mend.specs.Mend.{Passes, correctChecked, refused, mended, uncorrected}
 use Rattle.mend.proofs.Checks.{Ready, ready}
 use borrow.Author.Needs.{needs}
 use Rattle.mend.proofs.mend.Statement.{statement}

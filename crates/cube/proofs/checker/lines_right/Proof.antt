@@ -1,11 +1,10 @@
 -- `cube::checker::lines_right` meets its contract. The invariant: m is a multiple of the stride, and the lines from the first up to m are right. Assumes nothing.
 use mathlib.Core.Path.{_≡_, refl, sym, _∙_}
-use Prim.Native.Nat.{ℕ, _+_, _≤_, _-_, _%_}
+use Prim.Native.Nat.{_+_, _≤_, _-_, _%_}
 use native.Mathlib.Omega.{arith}
 use mathlib.Core.Bool.{false≢true}
 use borrow.Author.Needs.{needs}
 use borrow.Author.Tests.{not-true, not-false}
-use lib.ListN.{length}
 use Rattle.cube.proofs.AxisRuns.{Begins, begins, lines-ended, runFrom}
 use Rattle.cube.proofs.RightLines.{right-none, right-fewer, right-append, right-block, right-run, block-within}
 use Rattle.field.specs.Field.{reduction}

@@ -1,6 +1,6 @@
 -- `cube::checker::planes_right` meets its contract. The invariant: the rows and the columns of the planes below c are right. Assumes nothing.
 use mathlib.Core.Path.{_≡_, refl, sym, _∙_}
-use Prim.Native.Nat.{ℕ, _+_, _*_, _≤_, _-_}
+use Prim.Native.Nat.{_+_, _*_, _≤_, _-_}
 use native.Mathlib.Nat.{suc-mul, zero-mul, mul-comm}
 use native.Mathlib.Omega.{arith}
 use mathlib.Core.Bool.{false≢true}

@@ -3,10 +3,11 @@ use mathlib.Core.Path.{_≡_, refl}
 use Prim.Native.Nat.{_+_, _*_, _-_, _≤_}
 use native.Mathlib.Omega.{arith}
 use lib.ListN.{length}
+use Rattle.span.proofs.Stretches.{stretch-end}
 use Rattle.field.specs.Field.{reduction}
 use Rattle.field.proofs.Primitive.{primitive}
 use Rattle.cube.specs.Plane.{RowsCompleted}
-use Rattle.cube.proofs.Bytes.{Small, small, stretch-end, rows-in-plane}
+use Rattle.cube.proofs.Bytes.{Small, small, rows-in-plane}
 use Rattle.cube.proofs.Completing.{rowRun, row-inside, outcome-solved}
 use Rattle.cube.proofs.Planes.{rows-completed-none, rows-completed-more}
 use Rattle.cube.proofs.encoder.complete_rows.Statement.{statement}

@@ -3,10 +3,11 @@ use mathlib.Core.Path.{_≡_, refl}
 use Prim.Native.Nat.{_*_, _-_, _≤_}
 use native.Mathlib.Omega.{arith}
 use lib.ListN.{length}
+use Rattle.span.proofs.Stretches.{stretch-end}
 use Rattle.cube.specs.Shapes.{cells}
 use Rattle.field.specs.Field.{reduction}
 use Rattle.cube.specs.Plane.{planeBytes, partBytes, RowsEncoded}
-use Rattle.cube.proofs.Bytes.{Small, small, stretch-end, rows-in-plane}
+use Rattle.cube.proofs.Bytes.{Small, small, rows-in-plane}
 use Rattle.cube.proofs.Completing.{acrossRun}
 use Rattle.cube.proofs.Encoding.{rowsFrom, rowsTo, rows-to-inside, rows-fed, rows-encoded-none, rows-encoded-more}
 use Rattle.cube.proofs.encoder.encode_rows.Statement.{statement}

@@ -3,8 +3,8 @@ use mathlib.Core.Path.{_≡_, refl}
 use Prim.Native.Nat.{_+_, _*_, _-_, _≤_}
 use native.Mathlib.Omega.{arith}
 use lib.ListN.{length}
+use Rattle.span.proofs.Stretches.{stretch-end}
 use Rattle.cube.specs.Plane.{RowsCopied}
-use Rattle.cube.proofs.Bytes.{stretch-end}
 use Rattle.cube.proofs.Copying.{rows-copied-none, rows-copied-more}
 use Rattle.cube.proofs.rows.copy_rows.Statement.{statement}
 use Rattle.cube.proofs.rows.copy_rows.Tie as tie
@@ -38,7 +38,7 @@ mul-copy-2 : tie.Need-mul-copy-2 Inv-loop μ-loop
 mul-copy-2 c = omega (arith, inside (c .before))
 
 copy-requires : tie.Need-copy-requires Inv-loop μ-loop
-copy-requires c κs = inside (c .before)
+copy-requires c κs = tt
 
 add-b : tie.Need-add-b Inv-loop μ-loop
 add-b c = omega arith
@@ -50,7 +50,7 @@ loop-again : tie.Need-loop-again Inv-loop μ-loop
 loop-again c =
     let called = c .before .before in
     let l = called .before .before in
-    (omega arith, omega arith, rows-copied-more _ _ _ _ _ _ _ (omega arith) (l .before .loop .inv .2) (called .copy .ensures))
+    (omega arith, omega arith, rows-copied-more _ _ _ _ _ _ _ (omega arith) (l .before .loop .inv .2) (called .copy .ensures .done (inside l .0) (inside l .1) .1))
 
 same-length : tie.Need-same-length Inv-loop μ-loop
 same-length c = omega arith

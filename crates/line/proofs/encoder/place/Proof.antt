@@ -42,10 +42,7 @@ add-copy-2 : tie.Need-add-copy-2 Inv-loop μ-loop
 add-copy-2 c = omega (arith, to-place (c .before .before .before .before .before .before .before .before .before) (c .before .before .before .before .before .before .loop .i) (omega arith))
 
 copy-requires : tie.Need-copy-requires Inv-loop μ-loop
-copy-requires c κs = (
-  from-place (c .before .before .before .before .before .before .before .before .before) (c .before .before .before .before .before .before .loop .i) (omega arith),
-  omega (arith, to-place (c .before .before .before .before .before .before .before .before .before) (c .before .before .before .before .before .before .loop .i) (omega arith), c .before .before .before .before .before .before .loop .inv .1 .size),
-)
+copy-requires c κs = tt
 
 add-i : tie.Need-add-i Inv-loop μ-loop
 add-i c = omega (arith, c .before .before .before .before .before .before .before .before .before .before .before .before .pre .1 .inside .few-places)
@@ -55,9 +52,13 @@ loop-less c = omega arith
 
 loop-again : tie.Need-loop-again Inv-loop μ-loop
 loop-again c =
-    let turn = c .before .before .before .before .before .before .before .before .before .loop in (
+    let start = c .before .before .before .before .before .before .before .before .before .before .before .before in
+    let turn = c .before .before .before .before .before .before .before .before .before .loop in
+    let here : turn .i < start .args .from .len = omega arith in
+    let copied = c .before .before .copy .ensures .done (from-place start (turn .i) here)
+    (omega (arith, to-place start (turn .i) here, turn .inv .1 .size)) .1 in (
       omega arith,
-      between-more (turn .inv .1) _ _ (turn .i) (c .before .before .copy .ensures) (c .before .before .before .before .before .before .before .before .before .before .before .before .pre .0 .apart) (omega arith) (omega arith),
+      between-more (turn .inv .1) _ _ (turn .i) copied (start .pre .0 .apart) (omega arith) (omega arith),
     )
 
 same-length : tie.Need-same-length Inv-loop μ-loop

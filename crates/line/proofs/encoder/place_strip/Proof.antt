@@ -5,7 +5,7 @@ use native.Mathlib.Omega.{arith}
 use lib.ListN.{length}
 use denote.Ref.{now}
 use Rattle.line.specs.Block.{Tails}
-use Rattle.line.proofs.Encoding.{Between, between-none, between-more, between-all, stored-copied}
+use Rattle.line.proofs.Encoding.{Between, between-none, between-more, between-all}
 use Rattle.line.proofs.Tails.{tails-none, tails-at, tails-one, tails-whole, step-one}
 use Rattle.line.proofs.encoder.place_strip.Statement.{statement}
 use Rattle.line.proofs.encoder.place_strip.Tie as tie
@@ -38,40 +38,40 @@ loop-holds c = (
 sub-left : tie.Need-sub-left Inv-loop μ-loop
 sub-left c = omega arith
 
-mul-load : tie.Need-mul-load Inv-loop μ-loop
-mul-load c = omega (arith, from-strip (c .before .before .before .before .before) (c .before .before .loop .left - 1) (omega arith))
+mul-copy-strip : tie.Need-mul-copy-strip Inv-loop μ-loop
+mul-copy-strip c = omega (arith, from-strip (c .before .before .before .before .before .before) (c .before .before .before .loop .left - 1) (omega arith))
 
-add-load : tie.Need-add-load Inv-loop μ-loop
-add-load c = omega (arith, from-strip (c .before .before .before .before .before .before) (c .before .before .before .loop .left - 1) (omega arith))
+add-copy-strip : tie.Need-add-copy-strip Inv-loop μ-loop
+add-copy-strip c = omega (arith, from-strip (c .before .before .before .before .before .before .before) (c .before .before .before .before .loop .left - 1) (omega arith))
 
-load-requires : tie.Need-load-requires Inv-loop μ-loop
-load-requires c κs = from-strip (c .before .before .before .before .before .before) (c .before .before .before .loop .left - 1) (omega arith)
+mul-copy-strip-2 : tie.Need-mul-copy-strip-2 Inv-loop μ-loop
+mul-copy-strip-2 c = omega (arith, to-strip (c .before .before .before .before .before .before .before .before) (c .before .before .before .before .before .loop .left - 1) (omega arith))
 
-mul-store : tie.Need-mul-store Inv-loop μ-loop
-mul-store c = omega (arith, to-strip (c .before .before .before .before .before .before .before .before .before) (c .before .before .before .before .before .before .loop .left - 1) (omega arith))
+add-copy-strip-2 : tie.Need-add-copy-strip-2 Inv-loop μ-loop
+add-copy-strip-2 c = omega (arith, to-strip (c .before .before .before .before .before .before .before .before .before) (c .before .before .before .before .before .before .loop .left - 1) (omega arith))
 
-add-store : tie.Need-add-store Inv-loop μ-loop
-add-store c = omega (arith, to-strip (c .before .before .before .before .before .before .before .before .before .before) (c .before .before .before .before .before .before .before .loop .left - 1) (omega arith))
-
-store-requires : tie.Need-store-requires Inv-loop μ-loop
-store-requires c κs = omega (arith, to-strip (c .before .before .before .before .before .before .before .before .before .before) (c .before .before .before .before .before .before .before .loop .left - 1) (omega arith), c .before .before .before .before .before .before .before .loop .inv .1 .size)
+copy-strip-requires : tie.Need-copy-strip-requires Inv-loop μ-loop
+copy-strip-requires c κs = tt
 
 step-requires : tie.Need-step-requires Inv-loop μ-loop
-step-requires c κs = let sums = c .before .before .before .before .before .before .before .before .before .before .before .before .loop .inv .2 in (sums .size0, sums .size1)
+step-requires c κs = let sums = c .before .before .before .before .before .before .before .before .before .before .before .loop .inv .2 in (sums .size0, sums .size1)
 
 loop-less : tie.Need-loop-less Inv-loop μ-loop
 loop-less c = omega arith
 
 loop-again : tie.Need-loop-again Inv-loop μ-loop
 loop-again c =
-    let start = c .before .before .before .before .before .before .before .before .before .before .before .before .before .before .before .before in
-    let turn = c .before .before .before .before .before .before .before .before .before .before .before .before .before .loop in
-    let some = c .before .before .before .before .before .before .before .before .before .before .before .before .loop-test .taken in
+    let start = c .before .before .before .before .before .before .before .before .before .before .before .before .before .before .before in
+    let turn = c .before .before .before .before .before .before .before .before .before .before .before .before .loop in
+    let some = c .before .before .before .before .before .before .before .before .before .before .before .loop-test .taken in
     let wide : start .args .to .width ≡ 64 = start .pre .2 in
-    let window = c .before .before .before .before .before .before .before .before .before .load .ensures in (
+    let here : turn .left - 1 < start .args .from .len = omega arith in
+    let done = c .before .before .before .before .before .copy-strip .ensures .done (from-strip start (turn .left - 1) here)
+    (omega (arith, to-strip start (turn .left - 1) here, turn .inv .1 .size)) in (
       omega arith,
-      between-more (turn .inv .1) _ _ (turn .left - 1) (stored-copied _ wide window (c .before .before .before .before .before .store .ensures)) (start .pre .0 .apart) (omega arith) (omega arith),
-      tails-one (start .fits .reduction .fits) (λ p. c .before .before .before .before .before .before .before .before .before .before .before .before .before .before .before .shared-slice-known .given p .fits) (turn .inv .2) (step-one (omega (arith, start .pre .1 .lines)) window (c .step .ensures)) (omega arith) (omega arith),
+      between-more (turn .inv .1) _ _ (turn .left - 1) (rw wide (done .0)) (start .pre .0 .apart) (omega arith) (omega arith),
+      tails-one (start .fits .reduction .fits) (λ p. c .before .before .before .before .before .before .before .before .before .before .before .before .before .before .shared-slice-known .given p .fits) (turn .inv .2)
+          (step-one (omega (arith, start .pre .1 .lines)) (done .1) (c .step .ensures)) (omega arith) (omega arith),
     )
 
 same-length : tie.Need-same-length Inv-loop μ-loop
@@ -88,12 +88,11 @@ place-strip-spec =
     μ-loop
     loop-holds
     sub-left
-    mul-load
-    add-load
-    load-requires
-    mul-store
-    add-store
-    store-requires
+    mul-copy-strip
+    add-copy-strip
+    mul-copy-strip-2
+    add-copy-strip-2
+    copy-strip-requires
     step-requires
     loop-less
     loop-again

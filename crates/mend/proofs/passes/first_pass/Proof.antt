@@ -1,7 +1,7 @@
 -- `mend::passes::first_pass` meets its contract. The invariant: the rows below m of the second cube are the corrected rows of the first. Assumes
 -- nothing.
 use mathlib.Core.Path.{sym, _∙_}
-use Prim.Native.Nat.{_+_, _*_, _≤_, _<_, _-_}
+use Prim.Native.Nat.{_+_, _*_, _≤_, _-_}
 use native.Mathlib.Nat.{mul-le-mul-right}
 use native.Mathlib.Omega.{arith}
 use borrow.Author.Needs.{needs}
@@ -35,9 +35,7 @@ mul-at : tie.Need-mul-at Inv-loop μ-loop
 mul-at c = omega (arith, inside-here c, c .before .before .before .before .before .pre .0 .volume)
 
 copy-requires : tie.Need-copy-requires Inv-loop μ-loop
-copy-requires c κs =
-    let pre = c .before .before .before .before .before .before .pre in
-    omega (arith, inside-here (c .before), pre .1, c .before .before .loop .inv .1 .size)
+copy-requires c κs = tt
 
 correct-requires : tie.Need-correct-requires Inv-loop μ-loop
 correct-requires c κs = search needs
@@ -57,11 +55,12 @@ loop-again c =
     let pre = turn .before .before .before .before .before .pre in
     let less = turn .loop-test .taken in
     let through = turn .before .loop .inv .1 in
-    let copy = c .before .before .before .before .before .before .copy in
+    let copied = c .before .before .before .before .before .before .copy .ensures .done
+    (omega (arith, inside-here turn, pre .1)) (omega (arith, inside-here turn, pre .1, through .size)) .1 in
     let outcome = c .before .before .correct .ensures in
-    let size = copy .kept .1 .0 ∙ through .size ∙ pre .1 in (
+    let size = copied .size ∙ through .size ∙ pre .1 in (
       omega (arith, less),
-      rows-more _ _ _ _ _ _ _ _ through (copy .kept .1 .0) (copy .ensures) (outcome .written (outcome .yes-when (rw size (row-inside _ _ (pre .0) less)))),
+      rows-more _ _ _ _ _ _ _ _ through copied (outcome .written (outcome .yes-when (rw size (row-inside _ _ (pre .0) less)))),
     )
 
 same-length : tie.Need-same-length Inv-loop μ-loop

@@ -1,11 +1,10 @@
 -- `mend::passes::pass` meets its contract. The invariant: m is a multiple of the stride, and the cube is the one after the runs of the lines
 -- below m. Assumes nothing.
 use mathlib.Core.Path.{_≡_, sym, _∙_}
-use Prim.Native.Nat.{ℕ, _≤_, _-_, _%_}
+use Prim.Native.Nat.{_≤_, _-_, _%_}
 use native.Mathlib.Nat.{zero-mod}
 use native.Mathlib.Omega.{arith}
 use borrow.Author.Needs.{needs}
-use lib.ListN.{length}
 use Rattle.field.specs.Field.{reduction}
 use Rattle.cube.specs.Shapes.{linesOf, strideOf}
 use Rattle.cube.proofs.AxisRuns.{Begins, begins, lines-ended, runFrom}

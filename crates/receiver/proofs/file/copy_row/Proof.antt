@@ -60,7 +60,7 @@ sub-copy-2 : tie.Need-sub-copy-2
 sub-copy-2 c = omega (arith, inside c)
 
 copy-requires : tie.Need-copy-requires
-copy-requires c κs = (omega (arith, inside c), omega (arith, inside c))
+copy-requires c κs = search needs
 
 same-length : tie.Need-same-length
 same-length c = search needs
@@ -69,7 +69,7 @@ returns-2 : tie.Need-returns-2
 returns-2 c =
     let f = c .before .before .before in
     let e = f .before .before in
-    file-part _ _ _ _ _ _ _ (e .before .before .before .row-size .ensures) (f .row-start .ensures) (e .before .before .clip .ensures) (e .before .clip2 .ensures) _ _ _ (omega (arith, e .if1 .left)) (c .before .before .copy .ensures)
+    file-part _ _ _ _ _ _ _ (e .before .before .before .row-size .ensures) (f .row-start .ensures) (e .before .before .clip .ensures) (e .before .clip2 .ensures) _ _ _ (omega (arith, e .if1 .left)) (c .before .before .copy .ensures .done (omega (arith, inside f)) (omega (arith, inside f)) .1)
 
 pub copy-row-spec : {M : Type 1} → statement M
 copy-row-spec =

@@ -2,8 +2,8 @@
 use native.Mathlib.Omega.{arith}
 use Prim.Native.Nat.{_+_, _*_, _≤_, _<_}
 use lib.ListN.{length}
+use Rattle.span.proofs.Stretches.{stretch-end}
 use Rattle.cube.specs.Shapes.{cells}
-use Rattle.receiver.proofs.Bytes.{stretch-end}
 use Rattle.receiver.proofs.Packets.{cellOf-lt}
 use Rattle.receiver.proofs.Arrivals.{placed-first, placed-again, placed-other}
 use borrow.Author.Needs.{needs}
@@ -39,7 +39,7 @@ mul-copy : tie.Need-mul-copy
 mul-copy c = omega (arith, inside (c .before .before .before), start (c .before .before .before) .pre .3 .cube-size, start (c .before .before .before) .pre .0 .volume)
 
 copy-requires : tie.Need-copy-requires
-copy-requires c κs = (omega (arith, c .before .before .before .before .start-of .ensures), inside (c .before .before .before) .1)
+copy-requires c κs = search needs
 
 slice-write-flags : tie.Need-slice-write-flags
 slice-write-flags c = inside (c .before .before .before .before .before .before) .0
@@ -54,7 +54,7 @@ returns : tie.Need-returns
 returns c =
     let f = c .before .before .before .before .before .before in
     let s = start f in
-    placed-first _ _ _ _ _ (s .pre .2) (s .pre .3) _ _ (f .cell-of .ensures) (f .before .start-of .ensures) _ (c .before .before .before .before .if1 .taken) (c .before .before .copy .ensures)
+    placed-first _ _ _ _ _ (s .pre .2) (s .pre .3) _ _ (f .cell-of .ensures) (f .before .start-of .ensures) _ (c .before .before .before .before .if1 .taken) (c .before .before .copy .ensures .done (omega (arith, f .before .start-of .ensures)) (inside f .1) .1)
 
 mul-same : tie.Need-mul-same
 mul-same c = omega (arith, inside (c .before .before .before), start (c .before .before .before) .pre .3 .cube-size, start (c .before .before .before) .pre .0 .volume)

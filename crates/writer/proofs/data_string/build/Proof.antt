@@ -1,4 +1,6 @@
 -- `writer::data_string::build` meets its contract. Assumes nothing.
+use native.Mathlib.Omega.{arith}
+use Rattle.writer.proofs.Putting.{copied-put}
 use Rattle.writer.proofs.Sections.{dataString-put}
 use borrow.Author.Needs.{needs}
 use Rattle.writer.proofs.data_string.build.Statement.{statement}
@@ -21,11 +23,12 @@ same-length c = search needs
 
 returns : tie.Need-returns
 returns c =
-    dataString-put _ _ _ _
-    (c .before .before .before .before .before .before .before .before .before .before .before .before .before .before .args .file .now)
-    (c .before .before .before .before .before .before .before .before .before .before .before .before .before .before .pre)
-    (c .before .before .before .before .before .before .before .before .before .before .put-word .ensures)
-    (c .before .before .before .before .before .before .copy .ensures) (c .before .before .clear .ensures)
+    let copied = c .before .before .before .before .before .before in
+    let word = copied .before .before .before .before in
+    let s = word .before .before .before .before in
+    dataString-put _ _ _ _ (s .args .file .now) (s .pre) (word .put-word .ensures)
+    (copied-put _ _ _ _ _ _ (omega arith) (copied .copy .ensures .done (omega arith) (omega (arith, word .put-word .ensures .size)) .1))
+    (c .before .before .clear .ensures)
 
 pub build-spec : {M : Type 1} → statement M
 build-spec =

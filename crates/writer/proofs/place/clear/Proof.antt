@@ -4,12 +4,6 @@ use native.Mathlib.Omega.{arith}
 use lib.ListN.{length, replicate}
 use Rattle.writer.specs.Put.{Put}
 use Rattle.writer.proofs.Putting.{clear-none, clear-more, clear-all}
--- `writer::place::clear` meets its contract. The invariant: the bytes before i are put. Assumes nothing.
-use Prim.Native.Nat.{_-_, _≤_}
-use native.Mathlib.Omega.{arith}
-use lib.ListN.{length, replicate}
-use Rattle.writer.specs.Put.{Put}
-use Rattle.writer.proofs.Putting.{clear-more}
 use Rattle.writer.proofs.place.clear.Statement.{statement}
 use Rattle.writer.proofs.place.clear.Tie as tie
 

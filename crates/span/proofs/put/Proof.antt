@@ -3,16 +3,16 @@ use mathlib.Core.Path.{_≡_, refl, ap}
 use Prim.Native.Nat.{ℕ, _≤_, _-_}
 use native.Mathlib.Omega.{arith}
 use lib.ListN.{getD}
-use Rattle.receiver.specs.Runs.{Copied}
-use Rattle.receiver.proofs.Bytes.{copied-none, copied-more}
-use Rattle.receiver.proofs.runs.put.Statement.{statement}
-use Rattle.receiver.proofs.runs.put.Tie as tie
+use Rattle.span.specs.Span.{Copied}
+use Rattle.span.proofs.Copying.{copied-none, copied-more}
+use Rattle.span.proofs.put.Statement.{statement}
+use Rattle.span.proofs.put.Tie as tie
 
 abbrev Inv-loop : tie.InvT-loop
-Inv-loop dst₀ to c i₀ dst i = (i ≤ 64) × Copied c 0 dst₀ to i dst
+Inv-loop dst₀ to c i₀ dst i = (i ≤ 16) × Copied c 0 dst₀ to i dst
 
 abbrev μ-loop : tie.MeasureT-loop
-μ-loop dst₀ to c i₀ dst i = 64 - i
+μ-loop dst₀ to c i₀ dst i = 16 - i
 
 loop-holds : tie.Need-loop-holds Inv-loop μ-loop
 loop-holds c = (omega arith, copied-none _ _ _ _)
@@ -40,7 +40,7 @@ same-length c = c .before .loop .inv .1 .size
 
 returns : tie.Need-returns Inv-loop μ-loop
 returns c =
-    let all : c .before .loop .i ≡ 64 = omega arith in
+    let all : c .before .loop .i ≡ 16 = omega arith in
     rw all at (c .before .loop .inv .1)
 
 pub put-spec : {M : Type 1} → statement M

@@ -3,16 +3,16 @@ use mathlib.Core.Path.{_≡_, refl}
 use Prim.Native.Nat.{_≤_, _-_}
 use native.Mathlib.Omega.{arith}
 use lib.ListN.{length}
-use Rattle.receiver.specs.Runs.{Copied}
-use Rattle.receiver.proofs.Bytes.{copied-none, copied-more, copied-window}
-use Rattle.receiver.proofs.runs.taken.Statement.{statement}
-use Rattle.receiver.proofs.runs.taken.Tie as tie
+use Rattle.span.specs.Span.{Copied}
+use Rattle.span.proofs.Copying.{copied-none, copied-more, copied-piece}
+use Rattle.span.proofs.taken.Statement.{statement}
+use Rattle.span.proofs.taken.Tie as tie
 
 abbrev Inv-loop : tie.InvT-loop
-Inv-loop src from c₀ i₀ c i = (i ≤ 64) × (length c₀ ≡ 64) × Copied src from c₀ 0 i c
+Inv-loop src from c₀ i₀ c i = (i ≤ 16) × (length c₀ ≡ 16) × Copied src from c₀ 0 i c
 
 abbrev μ-loop : tie.MeasureT-loop
-μ-loop src from c₀ i₀ c i = 64 - i
+μ-loop src from c₀ i₀ c i = 16 - i
 
 loop-holds : tie.Need-loop-holds Inv-loop μ-loop
 loop-holds c = (omega arith, refl, copied-none _ _ _ _)
@@ -41,8 +41,8 @@ loop-again c = (
 
 returns : tie.Need-returns Inv-loop μ-loop
 returns c =
-    let all : c .before .loop .i ≡ 64 = omega arith in
-    copied-window (c .before .loop .inv .1) (rw all at (c .before .loop .inv .2))
+    let all : c .before .loop .i ≡ 16 = omega arith in
+    copied-piece (c .before .loop .inv .1) (rw all at (c .before .loop .inv .2))
 
 pub taken-spec : {M : Type 1} → statement M
 taken-spec =

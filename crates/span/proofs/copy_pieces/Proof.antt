@@ -1,14 +1,14 @@
--- `copy_strips` copies strip after strip; the last one may reach back into bytes that are copied already.
-use mathlib.Core.Path.{_≡_, _∙_}
+-- `copy_pieces` copies piece after piece; the last one may reach back into bytes that are copied already.
+use mathlib.Core.Path.{_≡_, refl, _∙_}
 use Prim.Native.Nat.{_+_, _-_, _<_}
 use native.Mathlib.Omega.{arith}
-use Rattle.receiver.specs.Runs.{Copied}
-use Rattle.receiver.proofs.Bytes.{copied-none, copied-strip}
-use Rattle.receiver.proofs.runs.copy_strips.Statement.{statement}
-use Rattle.receiver.proofs.runs.copy_strips.Tie as tie
+use Rattle.span.specs.Span.{Copied}
+use Rattle.span.proofs.Copying.{copied-none, copied-longer}
+use Rattle.span.proofs.copy_pieces.Statement.{statement}
+use Rattle.span.proofs.copy_pieces.Tie as tie
 
 abbrev Inv-loop : tie.InvT-loop
-Inv-loop src dst₀ from to n last i₀ dst i = (i < last + 64) × Copied src from dst₀ to i dst
+Inv-loop src dst₀ from to n last i₀ dst i = (i < last + 16) × Copied src from dst₀ to i dst
 
 abbrev μ-loop : tie.MeasureT-loop
 μ-loop src dst₀ from to n last i₀ dst i = last - i
@@ -40,7 +40,7 @@ loop-less c = omega arith
 loop-again : tie.Need-loop-again Inv-loop μ-loop
 loop-again c =
     let turn = c .before .before .before .before .before .before .loop in
-    (omega arith, copied-strip (turn .i) (turn .inv .1) (c .before .before .before .taken .ensures) (c .before .before .put .ensures) (omega arith) (omega arith))
+    (omega arith, copied-longer (turn .i) refl (turn .inv .1) (c .before .before .before .taken .ensures) (c .before .before .put .ensures) (omega arith) (omega arith))
 
 add-put-2 : tie.Need-add-put-2 Inv-loop μ-loop
 add-put-2 c = omega arith
@@ -61,11 +61,11 @@ returns : tie.Need-returns Inv-loop μ-loop
 returns c =
     let n = c .before .before .before .before .before .before .before .before .before .args .n in
     let turn = c .before .before .before .before .before .before .loop in
-    let all : n - 64 + 64 ≡ n = omega arith in
-    rw all at (copied-strip (n - 64) (turn .inv .1) (c .before .before .before .taken2 .ensures) (c .before .before .put2 .ensures) (omega arith) (omega arith))
+    let all : n - 16 + 16 ≡ n = omega arith in
+    rw all at (copied-longer (n - 16) refl (turn .inv .1) (c .before .before .before .taken2 .ensures) (c .before .before .put2 .ensures) (omega arith) (omega arith))
 
-pub copy-strips-spec : {M : Type 1} → statement M
-copy-strips-spec =
+pub copy-pieces-spec : {M : Type 1} → statement M
+copy-pieces-spec =
     tie.close
     (tie.spec
     Inv-loop

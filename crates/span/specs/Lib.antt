@@ -1,0 +1,2 @@
+-- What a reader of the crate `span` must believe.
+pub mod Span
