@@ -26,7 +26,8 @@ use jibrufath::Shape;
 /// The set of source document 004.
 const REFERENCE_SET: Shape = Shape::new(69, 69, 25, 397);
 
-const ROUNDS: usize = 60;
+/// Enough for several seconds a row: a shared machine is slow for a second or two at a time.
+const ROUNDS: usize = 120;
 
 /// How long a piece of work takes, over memcpy of the cube.
 struct Ratio {
