@@ -2,12 +2,13 @@
 use mathlib.Core.Path.{_≡_, refl, sym, ap, ap₂, subst, fun-ext, _∙_}
 use mathlib.Core.Bool.{true, false, false≢true, true≢false}
 use mathlib.Core.List.{List}
-use mathlib.Core.Logic.{_⊎_, _≢_, inl, ⊎-elim}
+use mathlib.Core.Logic.{_≢_, inl}
 use Prim.Native.Nat.{ℕ, _+_, _-_, _*_, _≤_, _<_}
 use native.Mathlib.Decide.{ℕ-discrete, decLt}
 use native.Mathlib.Omega.{arith}
 use lib.ListN.{length, getD}
 use Rattle.span.specs.Span.{Copied}
+use Rattle.span.proofs.Copying.{copied-beside}
 use Rattle.field.specs.Field.{Primitive}
 use Rattle.line.specs.declared.Run.{Run}
 use Rattle.line.specs.declared.Erasures.{Erasures}
@@ -54,7 +55,7 @@ between-more {lo} {hi} {from} {to} {ds} {before} {mid} {after} b low high j c ap
     record {
       size = c .size ∙ b .size;
       kept =
-          λ p o. beside p (unfold Off in o j (ends .0) (ends .1))
+          λ p o. copied-beside c p (unfold Off in o j (ends .0) (ends .1))
           ∙ b .kept p (λ i l h. o i (omega arith) (omega arith));
       placed =
           λ t l i a h. elim (ℕ-discrete i j) [
@@ -63,12 +64,8 @@ between-more {lo} {hi} {from} {to} {ds} {before} {mid} {after} b low high j c ap
           ];
     }
   where
-    beside :
-        (p : ℕ) → (p < to .first + to .stride * j) ⊎ (to .first + to .stride * j + to .width ≤ p) → getD after p 0 ≡ getD mid p 0
-    beside p o = ⊎-elim (c .below p) (c .above p) o
-
     same : (t : ℕ) → t < to .width → (i : ℕ) → i ≢ j → lineAt after to t i ≡ lineAt mid to t i
-    same t l i ne = unfold lineAt Off in beside _ (off-place to i j t apart (omega arith) ne)
+    same t l i ne = unfold lineAt Off in copied-beside c _ (off-place to i j t apart (omega arith) ne)
 
 -- ---- codewords
 

@@ -6,12 +6,14 @@ use Prim.Native.Nat.{ℕ, _+_, _*_, _≤_, _<_}
 use native.Mathlib.Decide.{ℕ-discrete}
 use native.Mathlib.Omega.{arith}
 use lib.ListN.{length, getD}
+use Rattle.span.specs.Span.{Copied}
+use Rattle.span.proofs.Copying.{copied-beside, copied-whole}
 use Rattle.field.specs.Field.{add, mul}
 use Rattle.line.specs.declared.Run.{Run}
 use Rattle.line.specs.declared.Erasures.{Erasures}
 use Rattle.line.specs.Line.{syndrome0, syndrome1, erased}
 use Rattle.line.specs.Run.{lineAt, Inside, Off, Written}
-use Rattle.line.specs.Block.{places, ToEnd, Cleared, Combined, Combining, Stored}
+use Rattle.line.specs.Block.{places, ToEnd, Cleared, Combined, Combining}
 use Rattle.line.proofs.Erasure.{syndrome0-erased-end, syndrome1-erased-end}
 use Rattle.line.proofs.Geometry.{off-place, off-width, stride-below}
 use Rattle.line.proofs.Parts.{Changed}
@@ -116,24 +118,24 @@ combined-erased r run e l0 l1 l2 s0 s1 size kept first second co =
       earlier = λ l t h. co .earlier l t h ∙ ap (λ (x : ℕ). add x (lineAt l2 run t (e .k))) (first t h);
     }
 
--- both erasures of 64 lines, the later one stored last
-pub stored-combined :
+-- both erasures of 64 lines, the later one written last
+pub copied-combined :
     {r : ℕ} {run : Run} {e : Erasures} {s0 s1 x y l0 l1 l2 : List ℕ} → run .width ≡ 64 → run .width ≤ run .stride →
     ((t : ℕ) → t < 64 → getD y t 0 ≡ add (mul r (getD s0 t 0) (e .b)) (mul r (getD s1 t 0) (e .d))) →
     ((t : ℕ) → t < 64 → getD x t 0 ≡ add (getD s0 t 0) (getD y t 0)) →
-    Stored (run .first + run .stride * e .j) x l0 l1 → Stored (run .first + run .stride * e .k) y l1 l2 →
+    Copied x 0 l0 (run .first + run .stride * e .j) 64 l1 → Copied y 0 l1 (run .first + run .stride * e .k) 64 l2 →
     Combined r run e s0 s1 l0 l2
 unfolding lineAt
-stored-combined {r} {run} {e} {s0} {s1} w apart ys xs sj sk =
+copied-combined {r} {run} {e} {s0} {s1} w apart ys xs sj sk =
     record {
       size = sk .size ∙ sj .size;
       kept =
-          λ p oj ok. sk .kept p (off-width run (e .k) p 64 (sym w) ok) ∙ sj .kept p (off-width run (e .j) p 64 (sym w) oj);
-      later = λ t h. sk .written t (omega arith) ∙ ys t (omega arith);
+          λ p oj ok. copied-beside sk p (off-width run (e .k) p 64 (sym w) ok) ∙ copied-beside sj p (off-width run (e .j) p 64 (sym w) oj);
+      later = λ t h. copied-whole sk t (omega arith) ∙ ys t (omega arith);
       earlier =
-          λ l t h. sk .kept _ (inl (omega (arith, stride-below (run .stride) (e .j) (e .k) l)))
-          ∙ sj .written t (omega arith) ∙ xs t (omega arith)
-          ∙ ap (add (getD s0 t 0)) (sym (sk .written t (omega arith)));
+          λ l t h. sk .below _ (omega (arith, stride-below (run .stride) (e .j) (e .k) l))
+          ∙ copied-whole sj t (omega arith) ∙ xs t (omega arith)
+          ∙ ap (add (getD s0 t 0)) (sym (copied-whole sk t (omega arith)));
     }
 
 pub combining-cleared :

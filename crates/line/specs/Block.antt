@@ -2,7 +2,6 @@
 use mathlib.Core.Path.{_≡_}
 use mathlib.Core.Bool.{Bool, true}
 use mathlib.Core.List.{List}
-use mathlib.Core.Logic.{_⊎_}
 use Prim.Native.Nat.{ℕ, _+_, _-_, _≤_, _<_, min}
 use lib.ListN.{length, getD}
 use Rattle.line.specs.declared.Run.{Run}
@@ -132,12 +131,6 @@ pub record Combining (r : ℕ) (read run : Run) (e : Erasures) (before after : L
   pub combined : Combined r run e s0 s1 before after
 
 -- ---- strips of 64 bytes
-
--- The 64 bytes c are written from `at` on.
-pub record Stored (at : ℕ) (c before after : List ℕ) : Type 0 where
-  pub size : length after ≡ length before
-  pub written : (t : ℕ) → t < 64 → getD after (at + t) 0 ≡ getD c t 0
-  pub kept : (p : ℕ) → (p < at) ⊎ (at + 64 ≤ p) → getD after p 0 ≡ getD before p 0
 
 -- Horner's step by a place whose bytes are c: what it makes of the bytes a0 and a1.
 pub record Step (r : ℕ) (c a0 a1 b0 b1 : List ℕ) : Type 0 where

@@ -5,11 +5,11 @@ use crate::Run;
 ghost use mathlib.Core.Path.{_≡_};
 ghost use Prim.Native.Nat.{ℕ, _+_, _<_, _≤_};
 ghost use lib.ListN.{length, getD, replicate};
-ghost use Rattle.span.specs.Span.{Piece};
+ghost use Rattle.span.specs.Span.{Copied, Piece};
 ghost use Rattle.field.specs.Field.{add, mul};
 ghost use Rattle.line.specs.Line.{Codeword};
 ghost use Rattle.line.specs.Run.{Inside, lineAt};
-ghost use Rattle.line.specs.Block.{Decides, Stored, Step, Syndromes, Combined, Combining, AllZero};
+ghost use Rattle.line.specs.Block.{Decides, Step, Syndromes, Combined, Combining, AllZero};
 
 // Writes both erasures of each line of `run` from the syndromes of the lines of `read`.
 pub(crate) fn solve(s: &mut [u8], reduction: u8, read: Run, run: Run, e: Erasures)
@@ -63,7 +63,7 @@ pub(crate) fn load(s: &[u8], at: usize) -> [u8; 64]
 // Writes 64 bytes from `at` on.
 pub(crate) fn store(s: &mut [u8], at: usize, c: [u8; 64])
     requires { ⌜ at + 64 ≤ length (now s) ⌝ }
-    ensures { λ r. ⌜ Stored at c (now (s .entry)) (now (s .exit)) ⌝ }
+    ensures { λ r. ⌜ Copied c 0 (now (s .entry)) at 64 (now (s .exit)) ⌝ }
 {
     let mut t = 0;
     while t < 64 {

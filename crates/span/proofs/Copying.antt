@@ -1,6 +1,7 @@
 -- Spans of bytes copied: one byte more, or one piece more.
 use mathlib.Core.Path.{_≡_, refl, sym, ap, _∙_}
 use mathlib.Core.List.{List}
+use mathlib.Core.Logic.{_⊎_, ⊎-elim}
 use Prim.Native.Nat.{ℕ, _+_, _-_, _≤_, _<_}
 use native.Mathlib.Decide.{ℕ-discrete, decLe}
 use native.Mathlib.Omega.{arith}
@@ -54,3 +55,12 @@ copied-longer {src} {before} {mid} {after} {c} {from} {to} {n} {at} a e h w s st
       below = λ p l. s .below p (omega arith) ∙ h .below p l;
       above = λ p l. s .above p (omega arith) ∙ h .above p (omega arith);
     }
+
+-- the bytes on either side are kept
+pub copied-beside : {src before after : List ℕ} {from to n : ℕ} → Copied src from before to n after → (p : ℕ) → (p < to) ⊎ (to + n ≤ p)
+    → getD after p 0 ≡ getD before p 0
+copied-beside c p o = ⊎-elim (c .below p) (c .above p) o
+
+-- all of src
+pub copied-whole : {src before after : List ℕ} {to n : ℕ} → Copied src 0 before to n after → (i : ℕ) → i < n → getD after (to + i) 0 ≡ getD src i 0
+copied-whole {src} c i l = let same : 0 + i ≡ i = omega arith in c .copied i l ∙ ap (λ (k : ℕ). getD src k 0) same

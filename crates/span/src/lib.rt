@@ -37,6 +37,7 @@ pub fn copy_strip(src: &[u8], dst: &mut [u8], from: usize, to: usize) -> [u8; 64
     strip(src, dst, from, to)
 }
 
+// Each piece is read once, and put in the slice and in the answer.
 fn strip(src: &[u8], dst: &mut [u8], from: usize, to: usize) -> [u8; 64]
     requires { ⌜ (from + 64 ≤ length (now src)) × (to + 64 ≤ length (now dst)) ⌝ }
     ensures { λ r. ⌜ Copied (now (src .entry)) from (now (dst .entry)) to 64 (now (dst .exit)) × Piece (now (src .entry)) from 64 r ⌝ }

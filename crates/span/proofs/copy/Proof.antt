@@ -1,9 +1,10 @@
 -- `copy` tests that both spans lie inside, and leaves the rest to its two loops.
+use mathlib.Core.Path.{refl}
 use mathlib.Core.Logic.{inl, inr}
 use native.Mathlib.Omega.{arith}
 use borrow.Author.Needs.{needs}
 use borrow.Author.Tests.{not-true, not-false}
-use Rattle.span.proofs.Outcome.{copy-done, copy-refused}
+use Rattle.span.proofs.Outcome.{outcome-done, outcome-refused}
 use Rattle.span.proofs.copy.Statement.{statement}
 use Rattle.span.proofs.copy.Tie as tie
 
@@ -11,13 +12,13 @@ inside-requires : tie.Need-inside-requires
 inside-requires c κs = search needs
 
 returns : tie.Need-returns
-returns c = copy-refused (inl (c .before .inside .ensures .1 (not-true _ (c .if1 .taken))))
+returns c = outcome-refused (inl (c .before .inside .ensures .1 (not-true _ (c .if1 .taken)))) (refl, refl)
 
 inside-requires-2 : tie.Need-inside-requires-2
 inside-requires-2 c κs = search needs
 
 returns-2 : tie.Need-returns-2
-returns-2 c = copy-refused (inr (c .before .inside2 .ensures .1 (not-true _ (c .if2 .taken))))
+returns-2 c = outcome-refused (inr (c .before .inside2 .ensures .1 (not-true _ (c .if2 .taken)))) (refl, refl)
 
 copy-bytes-requires : tie.Need-copy-bytes-requires
 copy-bytes-requires c κs = (
@@ -37,18 +38,18 @@ same-length c = search needs
 
 returns-3 : tie.Need-returns-3
 returns-3 c =
-    copy-done (c .before .before .before .before .before .before .before .before .inside .ensures .0 (not-false _ (c .before .before .before .before .before .before .before .if1 .left)))
+    outcome-done (c .before .before .before .before .before .before .before .before .inside .ensures .0 (not-false _ (c .before .before .before .before .before .before .before .if1 .left)))
     (c .before .before .before .before .before .before .inside2 .ensures .0 (not-false _ (c .before .before .before .before .before .if2 .left)))
-    (c .before .before .copy-bytes .ensures)
+    (refl, c .before .before .copy-bytes .ensures)
 
 same-length-2 : tie.Need-same-length-2
 same-length-2 c = search needs
 
 returns-4 : tie.Need-returns-4
 returns-4 c =
-    copy-done (c .before .before .before .before .before .before .before .before .inside .ensures .0 (not-false _ (c .before .before .before .before .before .before .before .if1 .left)))
+    outcome-done (c .before .before .before .before .before .before .before .before .inside .ensures .0 (not-false _ (c .before .before .before .before .before .before .before .if1 .left)))
     (c .before .before .before .before .before .before .inside2 .ensures .0 (not-false _ (c .before .before .before .before .before .if2 .left)))
-    (c .before .before .copy-pieces .ensures)
+    (refl, c .before .before .copy-pieces .ensures)
 
 pub copy-spec : {M : Type 1} → statement M
 copy-spec =

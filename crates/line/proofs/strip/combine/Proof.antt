@@ -3,7 +3,7 @@ use Prim.Native.Nat.{_+_, _*_, _≤_}
 use native.Mathlib.Omega.{arith}
 use lib.ListN.{length}
 use denote.Ref.{now}
-use Rattle.line.proofs.Solving.{stored-combined}
+use Rattle.line.proofs.Solving.{copied-combined}
 use borrow.Author.Needs.{needs}
 use Rattle.line.proofs.strip.combine.Statement.{statement}
 use Rattle.line.proofs.strip.combine.Tie as tie
@@ -46,7 +46,7 @@ same-length : tie.Need-same-length
 same-length c = search needs
 
 returns : tie.Need-returns
-returns c = stored-combined (c .before .before .before .before .before .before .before .before .before .before .before .before .before .before .before .before .before .pre .1) (c .before .before .before .before .before .before .before .before .before .before .before .before .before .before .before .before .before .pre .0 .apart) (c .before .before .before .before .before .before .before .before .before .before .before .before .before .before .before .products .ensures .1) (c .before .before .before .before .before .before .before .before .before .before .sums .ensures .1) (c .before .before .before .before .before .before .before .before .before .store .ensures) (c .before .before .store2 .ensures)
+returns c = copied-combined (c .before .before .before .before .before .before .before .before .before .before .before .before .before .before .before .before .before .pre .1) (c .before .before .before .before .before .before .before .before .before .before .before .before .before .before .before .before .before .pre .0 .apart) (c .before .before .before .before .before .before .before .before .before .before .before .before .before .before .before .products .ensures .1) (c .before .before .before .before .before .before .before .before .before .before .sums .ensures .1) (c .before .before .before .before .before .before .before .before .before .store .ensures) (c .before .before .store2 .ensures)
 
 pub combine-spec : {M : Type 1} → statement M
 combine-spec =

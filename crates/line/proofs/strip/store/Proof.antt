@@ -1,7 +1,7 @@
 -- `line::strip::store` writes 64 bytes into a slice.
 use mathlib.Core.Path.{ap, _∙_}
-use mathlib.Core.Logic.{inl, inr, ⊎-elim}
-use Prim.Native.Nat.{ℕ, _+_, _-_, _≤_, _<_}
+use mathlib.Core.Logic.{inl, inr}
+use Prim.Native.Nat.{ℕ, _+_, _-_, _≤_}
 use native.Mathlib.Omega.{arith}
 use lib.ListN.{getD}
 use Rattle.line.proofs.Updated.{Updated, updated-none, updated-more}
@@ -44,12 +44,12 @@ same-length c = c .before .loop .inv .1 .size
 
 returns : tie.Need-returns Inv-loop μ-loop
 returns c =
+    let all = c .before .loop .inv .1 in
     record {
-      size = c .before .loop .inv .1 .size;
-      written = λ t h. c .before .loop .inv .1 .done _ (omega arith) (omega arith) ∙ ap (λ (i : ℕ). getD (c .before .before .args .t3) i 0) (omega arith);
-      kept = λ p o. c .before .loop .inv .1 .kept p
-          (⊎-elim (λ (x : p < c .before .before .args .at). inl x)
-          (λ (x : c .before .before .args .at + 64 ≤ p). inr (omega arith)) o);
+      size = all .size;
+      copied = λ t h. all .done _ (omega arith) (omega arith) ∙ ap (λ (i : ℕ). getD (c .before .before .args .t3) i 0) (omega arith);
+      below = λ p l. all .kept p (inl l);
+      above = λ p l. all .kept p (inr (omega arith));
     }
 
 pub store-spec : {M : Type 1} → statement M
