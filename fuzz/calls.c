@@ -8,10 +8,12 @@
 #include <string.h>
 
 static const char *const names[CALLS] = {
-    "receive", "write", "write, lose, receive", "write, lose, damage, receive", "fill", "mend", "mend_pass", "encode, data", "sizes"};
+    "receive_pack", "write_pack", "write, lose, receive", "write, lose, damage, receive", "fill", "mend", "mend_axis", "encode, extract",
+    "sizes", "needs", "is_code_cube"};
 
 static fuzz_call *const calls[CALLS] = {
-    fuzz_receive, fuzz_write, fuzz_return, fuzz_damage, fuzz_fill, fuzz_mend, fuzz_pass, fuzz_encode, fuzz_sizes};
+    fuzz_receive, fuzz_write, fuzz_return, fuzz_damage, fuzz_fill, fuzz_mend, fuzz_mend_axis, fuzz_encode, fuzz_sizes, fuzz_needs,
+    fuzz_check};
 
 /* Each call with each number, and how large the count was: feedback for libFuzzer beside the library's own blocks. */
 __attribute__((section("__libfuzzer_extra_counters"))) static uint8_t answered[CALLS][17][8];

@@ -27,7 +27,7 @@ size_t near(size_t exact, uint8_t choice, int slice);
 /* What the calls are lent. */
 extern struct lent pack, cube, flags, file, output, data;
 
-enum call { RECEIVE, WRITE, RETURN, DAMAGE, FILL, MEND, PASS, ENCODE, SIZES, CALLS };
+enum call { RECEIVE, WRITE, RETURN, DAMAGE, FILL, MEND, MEND_AXIS, ENCODE, SIZES, NEEDS, CHECK, CALLS };
 
 /* Counts an answer, and requires one of the numbers that the call can give, as bits. */
 void note(enum call call, uint64_t answer, uint32_t numbers);
@@ -37,7 +37,7 @@ void check_filled(const struct shape *shape, const uint8_t *placed_flags, const 
 
 typedef void fuzz_call(struct input input, uint8_t choice);
 
-fuzz_call fuzz_receive, fuzz_write, fuzz_return, fuzz_damage;
-fuzz_call fuzz_fill, fuzz_mend, fuzz_pass, fuzz_encode, fuzz_sizes;
+fuzz_call fuzz_receive, fuzz_write, fuzz_return, fuzz_damage, fuzz_needs;
+fuzz_call fuzz_fill, fuzz_mend, fuzz_mend_axis, fuzz_encode, fuzz_check, fuzz_sizes;
 
 #endif

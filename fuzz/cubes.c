@@ -47,7 +47,7 @@ void fuzz_fill(struct input input, uint8_t choice)
     }
     require(kept(&flags), "the flags");
     for (size_t i = 0; i < cube.len; i++) {
-        int cleared = answer == JIBRUFATH_NO_FILLING && flags.bytes[i / shape.w];
+        int cleared = answer == JIBRUFATH_CONTRADICTION && flags.bytes[i / shape.w];
         require(cube.bytes[i] == (cleared ? 0 : cube.before[i]), "a cube that is not filled");
     }
 }
@@ -71,10 +71,10 @@ void fuzz_mend(struct input input, uint8_t choice)
     if (answer == JIBRUFATH_OK)
         require(lines_right(&shape, output.bytes, flags.bytes), "the mended cube");
     else
-        require(answer == JIBRUFATH_NOT_MENDED ? all(&output, 0) : kept(&output), "the second cube");
+        require(answer == JIBRUFATH_UNCORRECTED ? all(&output, 0) : kept(&output), "the second cube");
 }
 
-void fuzz_pass(struct input input, uint8_t choice)
+void fuzz_mend_axis(struct input input, uint8_t choice)
 {
     struct shape shape = next_shape(&input);
     const size_t *l = shape.length;
@@ -83,10 +83,10 @@ void fuzz_pass(struct input input, uint8_t choice)
     memcpy(output.bytes, cube.bytes, cube.len < output.len ? cube.len : output.len);
     remember(&output);
     size_t axis = next_byte(&input) % 5;
-    uint64_t answer = jibrufath_mend_pass(output.bytes, output.len, l[0], l[1], l[2], shape.w, axis);
-    note(PASS, answer, 0x0013); /* 0, 1, 4 */
+    uint64_t answer = jibrufath_mend_axis(output.bytes, output.len, l[0], l[1], l[2], shape.w, axis);
+    note(MEND_AXIS, answer, 0x0013); /* 0, 1, 4 */
     require(answer == JIBRUFATH_OK || kept(&output), "the memory that a refusal keeps");
-    require((axis - 1 < 3) == (answer != JIBRUFATH_LENGTH), "the axis");
+    require((axis - 1 < 3) == (answer != JIBRUFATH_DIMENSION), "the axis");
     size_t changed = 0;
     for (size_t i = 0; i < output.len; i++)
         changed += output.bytes[i] != output.before[i];
@@ -114,10 +114,29 @@ void fuzz_encode(struct input input, uint8_t choice)
     memset(flags.bytes, 0, flags.len);
     require(lines_right(&shape, cube.bytes, flags.bytes), "the code cube");
     lend(&data, near(capacity, choice, 2), choice);
-    answer = jibrufath_data(cube.bytes, cube.len, data.bytes, data.len, l[0], l[1], l[2], shape.w);
+    answer = jibrufath_extract(cube.bytes, cube.len, data.bytes, data.len, l[0], l[1], l[2], shape.w);
     note(ENCODE, answer, 0x0011); /* 0, 4 */
     int back = answer == JIBRUFATH_OK ? memcmp(data.bytes, string, capacity) == 0 : kept(&data);
     require(back, "the data string comes back");
+}
+
+void fuzz_check(struct input input, uint8_t choice)
+{
+    struct shape shape = next_shape(&input);
+    const size_t *l = shape.length;
+    next_cube(&input, &shape, choice);
+    lend(&output, near(cube.len, choice, 0), choice);
+    memcpy(output.bytes, cube.bytes, cube.len < output.len ? cube.len : output.len);
+    remember(&output);
+    uint64_t answer = jibrufath_is_code_cube(output.bytes, output.len, l[0], l[1], l[2], shape.w);
+    note(CHECK, answer, 0x0011); /* 0, 4 */
+    require(kept(&output), "a cube that is only read");
+    require((output.len == cube.len) == (jibrufath_number(answer) == JIBRUFATH_OK), "the exact length");
+    if (jibrufath_number(answer) != JIBRUFATH_OK)
+        return;
+    lend(&flags, cells_of(&shape), choice);
+    memset(flags.bytes, 0, flags.len);
+    require(jibrufath_count(answer) == (uint64_t)lines_right(&shape, output.bytes, flags.bytes), "a code cube or not");
 }
 
 /* Any four numbers, of which half the inputs are small. */

@@ -6,17 +6,49 @@
 /* The bytes of an air pack before its packets. */
 #define HEAD ((size_t)17)
 
-/* The shape in a pack's section 1, or a small one where that is cut, refused or too large. */
-static struct shape shape_in(struct input input)
+/* What the table says of section 1 of `pack`, with the shape in it where that is nothing to refuse. */
+static enum jibrufath_answer judged(struct shape *shape)
 {
-    struct shape small = {{3, 3, 3}, 5};
-    if (input.len < 9)
-        return small;
-    const uint8_t *at = input.bytes + 4;
-    struct shape shape = {{at[0], at[1], at[2]}, at[3] + 256u * at[4]};
-    uint64_t bytes = jibrufath_cube_bytes(at[0], at[1], at[2], shape.w);
-    uint64_t room = jibrufath_count(jibrufath_capacity(at[0], at[1], at[2], shape.w));
-    return jibrufath_number(bytes) != JIBRUFATH_OK || jibrufath_count(bytes) > MOST_BYTES || room < 4 ? small : shape;
+    const uint8_t *at = pack.bytes;
+    if (pack.len < 4)
+        return JIBRUFATH_TRUNCATED;
+    if (at[0] != 5 || at[1] != 0 || at[2] != 0 || at[3] != 0)
+        return JIBRUFATH_HEADER_COUNT;
+    if (pack.len < 9)
+        return JIBRUFATH_TRUNCATED;
+    *shape = (struct shape){{at[4], at[5], at[6]}, at[7] + 256u * at[8]};
+    if (at[4] < 3 || at[5] < 3 || at[6] < 3)
+        return JIBRUFATH_DIMENSION;
+    if (shape->w < 1 || shape->w > 1024)
+        return JIBRUFATH_PACKET_SIZE;
+    if (cells_of(shape) * shape->w > 268435456)
+        return JIBRUFATH_CUBE_SIZE;
+    return capacity_of(shape) < 4 ? JIBRUFATH_CAPACITY : JIBRUFATH_OK;
+}
+
+/* Asks what `pack` needs, and answers with its shape, or with a small one where that is refused or too large. */
+static struct shape shape_in_pack(void)
+{
+    struct shape shape = {{3, 3, 3}, 5}, small = shape;
+    uint64_t needs[JIBRUFATH_NEEDS], expected[JIBRUFATH_NEEDS] = {0};
+    memset(needs, 0xEE, sizeof needs);
+    uint64_t answer = jibrufath_needs(pack.bytes, pack.len, needs);
+    note(NEEDS, answer, 0x04CF); /* 0 to 3, 6, 7, 10 */
+    require(answer == judged(&shape), "the number of section 1");
+    require(kept(&pack), "the pack");
+    if (answer == JIBRUFATH_OK) {
+        const size_t *l = shape.length, cells = cells_of(&shape), capacity = capacity_of(&shape);
+        const uint64_t sizes[] = {l[0], l[1], l[2], shape.w, cells, cells * shape.w, capacity, capacity - 4, HEAD + cells * (3 + shape.w)};
+        memcpy(expected, sizes, sizeof sizes);
+    }
+    require(memcmp(needs, expected, sizeof needs) == 0, "what the pack needs");
+    return answer != JIBRUFATH_OK || needs[JIBRUFATH_NEED_CUBE_BYTES] > MOST_BYTES ? small : shape;
+}
+
+void fuzz_needs(struct input input, uint8_t choice)
+{
+    lend_copy(&pack, input.bytes, input.len, choice);
+    shape_in_pack();
 }
 
 /* Where the cell of a packet begins in the cube. */
@@ -41,7 +73,7 @@ static void check_opened(const struct shape *shape, size_t len)
 {
     lend(&data, capacity_of(shape), 1);
     const size_t *l = shape->length;
-    uint64_t answer = jibrufath_data(cube.bytes, cube.len, data.bytes, data.len, l[0], l[1], l[2], shape->w);
+    uint64_t answer = jibrufath_extract(cube.bytes, cube.len, data.bytes, data.len, l[0], l[1], l[2], shape->w);
     require(answer == JIBRUFATH_OK, "a data string");
     const uint8_t *string = data.bytes;
     require((string[0] | string[1] << 8 | (size_t)string[2] << 16 | (size_t)string[3] << 24) == len, "the file's length");
@@ -60,9 +92,9 @@ static void check_received(const struct shape *shape, uint64_t answer, const uin
     require(kept(&pack), "the pack");
     if (number == JIBRUFATH_CONFLICT) {
         require(all(&cube, 0) && all(&flags, 1), "a cube of nothing");
-    } else if (number == JIBRUFATH_OK || number == JIBRUFATH_NO_FILLING || number == JIBRUFATH_FILE_LENGTH) {
+    } else if (number == JIBRUFATH_OK || number == JIBRUFATH_CONTRADICTION || number == JIBRUFATH_FILE_LENGTH) {
         place(shape, placed_flags, placed_cube);
-        if (number != JIBRUFATH_NO_FILLING) {
+        if (number != JIBRUFATH_CONTRADICTION) {
             check_filled(shape, placed_flags, placed_cube, jibrufath_count(answer));
         } else {
             require(memcmp(flags.bytes, placed_flags, flags.len) == 0, "the flags as placed");
@@ -72,11 +104,11 @@ static void check_received(const struct shape *shape, uint64_t answer, const uin
         require(kept(&cube) && kept(&flags), "the memory that a refusal keeps");
     }
     if (opened)
-        check_opened(shape, counts[JIBRUFATH_FILE_BYTES]);
+        check_opened(shape, counts[JIBRUFATH_COUNT_FILE_BYTES]);
     size_t packets = number == JIBRUFATH_OK ? (pack.len - HEAD) / (3 + shape->w) : 0;
-    require(counts[JIBRUFATH_PACKETS] == packets, "the count of packets");
-    require(counts[JIBRUFATH_REPEATS] <= packets, "the count of repeats");
-    for (int i = JIBRUFATH_REPEATS + 1; i < JIBRUFATH_COUNTS; i++)
+    require(counts[JIBRUFATH_COUNT_PACKETS] == packets, "the count of packets");
+    require(counts[JIBRUFATH_COUNT_REPEATS] <= packets, "the count of repeats");
+    for (int i = JIBRUFATH_COUNT_REPEATS + 1; i < JIBRUFATH_COUNTS; i++)
         require(counts[i] == 0, "the counts to come");
 }
 
@@ -88,7 +120,7 @@ static uint64_t receive(const struct shape *shape, uint8_t choice, enum call cal
     lend(&file, near(capacity_of(shape) - 4, choice, 2), choice);
     uint64_t counts[JIBRUFATH_COUNTS];
     memset(counts, 0xEE, sizeof counts);
-    uint64_t answer = jibrufath_receive(
+    uint64_t answer = jibrufath_receive_pack(
         pack.bytes, pack.len, cube.bytes, cube.len, flags.bytes, flags.len, file.bytes, file.len, counts);
     note(call, answer, 0x7FDF); /* 0 to 4, 6 to 14 */
     check_received(shape, answer, counts);
@@ -97,8 +129,8 @@ static uint64_t receive(const struct shape *shape, uint8_t choice, enum call cal
 
 void fuzz_receive(struct input input, uint8_t choice)
 {
-    struct shape shape = shape_in(input);
     lend_copy(&pack, input.bytes, input.len, choice);
+    struct shape shape = shape_in_pack();
     receive(&shape, choice, RECEIVE);
 }
 
@@ -108,7 +140,7 @@ static uint64_t write_job(const struct shape *shape, uint8_t choice, enum call c
     size_t cells = cells_of(shape);
     lend(&cube, near(cells * shape->w, choice, 0), choice);
     lend(&output, near(HEAD + cells * (3 + shape->w), choice, 1), choice);
-    uint64_t answer = jibrufath_write(pack.bytes, pack.len, cube.bytes, cube.len, output.bytes, output.len);
+    uint64_t answer = jibrufath_write_pack(pack.bytes, pack.len, cube.bytes, cube.len, output.bytes, output.len);
     note(call, answer, 0x07DF); /* 0 to 4, 6 to 10 */
     require(kept(&pack), "the job");
     if (answer != JIBRUFATH_OK) {
@@ -128,8 +160,8 @@ static uint64_t write_job(const struct shape *shape, uint8_t choice, enum call c
 
 void fuzz_write(struct input input, uint8_t choice)
 {
-    struct shape shape = shape_in(input);
     lend_copy(&pack, input.bytes, input.len, choice);
+    struct shape shape = shape_in_pack();
     write_job(&shape, choice, WRITE);
 }
 
@@ -206,6 +238,6 @@ void fuzz_damage(struct input input, uint8_t choice)
         pack.bytes[at % pack.len] ^= next_byte(&places);
     }
     remember(&pack);
-    shape = shape_in((struct input){pack.bytes, pack.len});
+    shape = shape_in_pack();
     receive(&shape, choice, DAMAGE);
 }

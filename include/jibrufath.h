@@ -12,24 +12,39 @@
  *   not overlap. A slice of length 0 is not read or written. No call allocates, keeps a pointer, has state or fails otherwise than by
  *   its answer, so that calls on different memory may run at the same time.
  *
- *   cube      jibrufath_cube_bytes: w * cells
+ *   cube      jibrufath_cube_bytes: w * cells, cells = l1 * l2 * l3
  *   flags     jibrufath_cells: a byte for each cell, 0 known, 1 missing
  *   data      jibrufath_capacity: w * (l1 - 2) * (l2 - 2) * (l3 - 2)
  *   file      capacity - 4, the most that a file can have; the other four bytes of the data string are its length
  *   output    jibrufath_pack_bytes: 17 + cells * (3 + w)
  *
+ *   In all a writer is lent w * cells + 17 + cells * (3 + w) bytes, and a receiver w * cells + cells + capacity - 4. jibrufath_needs
+ *   gives the sizes that a pack asks for. The tests encode cubes up to the largest: 128 by 128 by 16 cells of 1,024 bytes, which is
+ *   268,435,456 in all, and 255 by 255 by 255 of 16.
+ *
+ *   The stack that a call takes does not grow with the shape. Measured on the shapes of examples/c/stack.c, the most was 9.6 kB in
+ *   encode, is_code_cube, fill, write_pack and receive_pack, 17.2 kB in mend and mend_axis, and 0.4 kB in all others. 12 kB, 20 kB
+ *   and 1 kB are a safe reserve; a test holds the calls to these.
+ *
+ * Numbers
+ *   Lengths and all other numbers are uint64_t, which is what the machine code takes: the archive is for x86-64, and links with no
+ *   other code.
+ *
  * Answers
  *   Every call but those of the field answers with 64 bits. The low byte is a number of the table below, JIBRUFATH_OK or a refusal.
- *   What stands above it is a count with JIBRUFATH_OK (cells left, or a size) and the packet's index from 0 with refusals 11 and 12;
- *   it is 0 with all others. jibrufath_number and jibrufath_count take an answer apart.
+ *   What stands above it is a count with JIBRUFATH_OK (cells left, a size, or 1 for a code cube) and the packet's index from 0 with
+ *   refusals 11 and 12; it is 0 with all others. jibrufath_number and jibrufath_count take an answer apart.
  *
  *   A call makes its checks in the order in which its comment names them, and answers with the first that fails. The checks of a
  *   shape are 1, 2, 3, in this order. Refusals 1 to 11 and 15 change no lent byte, and no refusal changes the file buffer. */
 #ifndef JIBRUFATH_H
 #define JIBRUFATH_H
 
-#include <stddef.h>
 #include <stdint.h>
+
+/* The version of this interface. The major number grows where a program must be changed or compiled again. */
+#define JIBRUFATH_VERSION_MAJOR 2
+#define JIBRUFATH_VERSION_MINOR 0
 
 #ifdef __cplusplus
 extern "C" {
@@ -38,22 +53,22 @@ extern "C" {
 /* The number in the low byte of an answer. */
 enum jibrufath_answer {
     JIBRUFATH_OK = 0,
-    JIBRUFATH_LENGTH = 1,          /* a length is not 3 to 255, or an axis is not 1 to 3 */
-    JIBRUFATH_WIDTH = 2,           /* w is not 1 to 1,024 */
-    JIBRUFATH_SIZE = 3,            /* w * cells is above 268,435,456 */
-    JIBRUFATH_MEMORY = 4,          /* a lent slice has not the exact length */
-    JIBRUFATH_FLAG = 5,            /* a flag is neither 0 nor 1 */
-    JIBRUFATH_TRUNCATED = 6,       /* the pack ends inside a count or a section */
-    JIBRUFATH_HEADER_COUNT = 7,    /* the count of section 1 is not 5 */
-    JIBRUFATH_TRAILING_BYTES = 8,  /* the pack has bytes after section 3 */
-    JIBRUFATH_SECTION_COUNT = 9,   /* the section that must be empty is not */
-    JIBRUFATH_CAPACITY = 10,       /* the data string has no room for the file, or not even for its length */
-    JIBRUFATH_CELL_INDEX = 11,     /* a packet names a cell outside the cube; the count is the packet's index */
-    JIBRUFATH_CONFLICT = 12,       /* a packet's cell came before with other bytes; the count is the packet's index */
-    JIBRUFATH_NO_FILLING = 13,     /* the known cells contradict each other */
-    JIBRUFATH_FILE_LENGTH = 14,    /* the data string holds no file: too long, or bytes behind it that are not 00h */
-    JIBRUFATH_MISSING = 15,        /* a flag is 1, and mending takes only whole cubes */
-    JIBRUFATH_NOT_MENDED = 16      /* what mending leaves is not a code cube */
+    JIBRUFATH_DIMENSION = 1,          /* a length is not 3 to 255, or an axis is not 1 to 3 */
+    JIBRUFATH_PACKET_SIZE = 2,        /* w is not 1 to 1,024 */
+    JIBRUFATH_CUBE_SIZE = 3,          /* w * cells is above 268,435,456 */
+    JIBRUFATH_SLICE_LENGTH = 4,       /* a lent slice has not the exact length */
+    JIBRUFATH_FLAG_VALUE = 5,         /* a flag is neither 0 nor 1 */
+    JIBRUFATH_TRUNCATED = 6,          /* the pack ends inside a count or a section */
+    JIBRUFATH_HEADER_COUNT = 7,       /* the count of section 1 is not 5 */
+    JIBRUFATH_TRAILING_BYTES = 8,     /* the pack has bytes after section 3 */
+    JIBRUFATH_SECTION_COUNT = 9,      /* the section that must be empty is not */
+    JIBRUFATH_CAPACITY = 10,          /* the data string has no room for the file, or not even for its length */
+    JIBRUFATH_CELL_INDEX = 11,        /* a packet names a cell outside the cube; the count is the packet's index */
+    JIBRUFATH_CONFLICT = 12,          /* a packet's cell came before with other bytes; the count is the packet's index */
+    JIBRUFATH_CONTRADICTION = 13,     /* the known cells contradict each other */
+    JIBRUFATH_FILE_LENGTH = 14,       /* the data string holds no file: too long, or bytes behind it that are not 00h */
+    JIBRUFATH_ERASURE = 15,           /* a flag is 1, and mending takes only whole cubes */
+    JIBRUFATH_UNCORRECTED = 16        /* what mending leaves is not a code cube */
 };
 
 /* The number of an answer, and its count. */
@@ -69,16 +84,44 @@ static inline uint64_t jibrufath_count(uint64_t answer)
 
 /* Sizes of a shape. Each answers with the size as its count. Checks: 1, 2, 3. */
 
-uint64_t jibrufath_cells(size_t l1, size_t l2, size_t l3, size_t w);
-uint64_t jibrufath_cube_bytes(size_t l1, size_t l2, size_t l3, size_t w);
-uint64_t jibrufath_capacity(size_t l1, size_t l2, size_t l3, size_t w);
-uint64_t jibrufath_pack_bytes(size_t l1, size_t l2, size_t l3, size_t w);
+/* The cells, and so the bytes of flags. */
+uint64_t jibrufath_cells(uint64_t l1, uint64_t l2, uint64_t l3, uint64_t w);
+/* The bytes of a cube. */
+uint64_t jibrufath_cube_bytes(uint64_t l1, uint64_t l2, uint64_t l3, uint64_t w);
+/* The bytes of a data string; a file buffer has 4 less. */
+uint64_t jibrufath_capacity(uint64_t l1, uint64_t l2, uint64_t l3, uint64_t w);
+/* The bytes of a written pack. */
+uint64_t jibrufath_pack_bytes(uint64_t l1, uint64_t l2, uint64_t l3, uint64_t w);
 
 /* Packs. A pack is three sections, each behind its count in four bytes, low first:
  *   1  count 5: l1, l2, l3 in a byte each, w in two, low first
  *   2  count = bytes of the file, then the file
  *   3  count = packets, then for each a, b, c in a byte each and the w bytes of the cell
  * A job pack holds a file and no packet; an air pack holds packets and no file. */
+
+/* The places in needs. The other 7 are 0, and are kept. */
+enum jibrufath_need_place {
+    JIBRUFATH_NEED_L1 = 0,
+    JIBRUFATH_NEED_L2 = 1,
+    JIBRUFATH_NEED_L3 = 2,
+    JIBRUFATH_NEED_W = 3,
+    JIBRUFATH_NEED_CELLS = 4,         /* the bytes of flags */
+    JIBRUFATH_NEED_CUBE_BYTES = 5,
+    JIBRUFATH_NEED_CAPACITY = 6,      /* the bytes of a data string */
+    JIBRUFATH_NEED_FILE_BYTES = 7,    /* the bytes of the receiver's file buffer */
+    JIBRUFATH_NEED_PACK_BYTES = 8,    /* the bytes of the writer's output */
+    JIBRUFATH_NEEDS = 16
+};
+
+/* Says what memory a pack's calls are lent: the shape in section 1, and its sizes. Nothing behind section 1 is read.
+ *
+ * pack and its length; needs, which is an array of 16. All 16 are written by every call, and all are 0 with a refusal: they are the
+ * answer, and not lent memory.
+ *
+ * Checks: 6 count 1 is cut; 7; 6 section 1 is cut; 1, 2, 3; 10 capacity below 4. */
+uint64_t jibrufath_needs(
+    const uint8_t *pack, uint64_t pack_len,
+    uint64_t needs[16]);
 
 /* Writes a job pack's file as an air pack that has every packet, in cell order.
  *
@@ -87,16 +130,17 @@ uint64_t jibrufath_pack_bytes(size_t l1, size_t l2, size_t l3, size_t w);
  *
  * Checks: 6 count 1 is cut; 7; 6 section 1 is cut; 1, 2, 3; 10 capacity below 4; 6 count 2 is cut; 10 count 2 above capacity - 4;
  * 6 the file is cut; 6 count 3 is cut; 9 count 3 is not 0; 8; 4. */
-uint64_t jibrufath_write(
-    const uint8_t *job, size_t job_len,
-    uint8_t *cube, size_t cube_len,
-    uint8_t *output, size_t output_len);
+uint64_t jibrufath_write_pack(
+    const uint8_t *job, uint64_t job_len,
+    uint8_t *cube, uint64_t cube_len,
+    uint8_t *output, uint64_t output_len);
 
-/* The places in counts. The other 13 are 0, and are kept for counts to come. */
-enum jibrufath_counts {
-    JIBRUFATH_FILE_BYTES = 0,      /* the file's length; 0 where no file came out */
-    JIBRUFATH_PACKETS = 1,         /* the packets of the pack */
-    JIBRUFATH_REPEATS = 2,         /* those of them whose cell had come before */
+/* The places in counts. The other 13 are 0, and are kept: 3 to 9 beside the repeats for those of other feeders, 10 to 12 for totals of
+ * the axes, 13 to 15 for the counts of a plan. */
+enum jibrufath_count_place {
+    JIBRUFATH_COUNT_FILE_BYTES = 0,   /* the file's length; 0 where no file came out */
+    JIBRUFATH_COUNT_PACKETS = 1,      /* the packets of the pack */
+    JIBRUFATH_COUNT_REPEATS = 2,      /* those of them whose cell had come before */
     JIBRUFATH_COUNTS = 16
 };
 
@@ -104,8 +148,8 @@ enum jibrufath_counts {
  * where no cell is left.
  *
  * air and its length; cube; flags; file; counts, which is an array of 16. What cube, flags and file hold before does not matter. OK
- * with count 0: the file came out. OK with another count: so many cells are left, always 27 or more. All
- * 16 counts are written by every call, and all are 0 with a refusal.
+ * with count 0: the file came out. OK with another count: so many cells are left, always 27 or more. All 16 counts are written by
+ * every call, and all are 0 with a refusal.
  *
  * Checks: 6 count 1 is cut; 7; 6 section 1 is cut; 1, 2, 3; 10 capacity below 4; 6 count 2 is cut; 9 count 2 is not 0; 6 count 3 is
  * cut; 6 the packets are cut; 8; 4; 11 of any packet; then 12, 13, 14.
@@ -119,26 +163,32 @@ enum jibrufath_counts {
  *   14               filled, a code cube                    all 0                      as before
  *   OK, cells left   filled, 00h in the cells left          1 in the cells left        as before
  *   OK, a file       filled, a code cube                    all 0                      the file, then as before */
-uint64_t jibrufath_receive(
-    const uint8_t *air, size_t air_len,
-    uint8_t *cube, size_t cube_len,
-    uint8_t *flags, size_t flags_len,
-    uint8_t *file, size_t file_len,
+uint64_t jibrufath_receive_pack(
+    const uint8_t *air, uint64_t air_len,
+    uint8_t *cube, uint64_t cube_len,
+    uint8_t *flags, uint64_t flags_len,
+    uint8_t *file, uint64_t file_len,
     uint64_t counts[16]);
 
 /* Cubes. */
 
 /* Writes the code cube that has the data string. Every byte of cube is written. A refusal changes nothing. Checks: 1, 2, 3, 4. */
 uint64_t jibrufath_encode(
-    const uint8_t *data, size_t data_len,
-    uint8_t *cube, size_t cube_len,
-    size_t l1, size_t l2, size_t l3, size_t w);
+    const uint8_t *data, uint64_t data_len,
+    uint8_t *cube, uint64_t cube_len,
+    uint64_t l1, uint64_t l2, uint64_t l3, uint64_t w);
 
 /* Reads the data string of a cube, whether or not that is a code cube. A refusal changes nothing. Checks: 1, 2, 3, 4. */
-uint64_t jibrufath_data(
-    const uint8_t *cube, size_t cube_len,
-    uint8_t *data, size_t data_len,
-    size_t l1, size_t l2, size_t l3, size_t w);
+uint64_t jibrufath_extract(
+    const uint8_t *cube, uint64_t cube_len,
+    uint8_t *data, uint64_t data_len,
+    uint64_t l1, uint64_t l2, uint64_t l3, uint64_t w);
+
+/* Says whether a cube is a code cube. OK: the count is 1 where every line of it is right in every layer, and 0 where one is not.
+ * Checks: 1, 2, 3, 4. */
+uint64_t jibrufath_is_code_cube(
+    const uint8_t *cube, uint64_t cube_len,
+    uint64_t l1, uint64_t l2, uint64_t l3, uint64_t w);
 
 /* Gives every missing cell the bytes that the lines force. Bytes of missing cells are not read.
  *
@@ -149,16 +199,16 @@ uint64_t jibrufath_data(
  *
  * Checks: 1, 2, 3, 4, 5 of all flags, 13. */
 uint64_t jibrufath_fill(
-    uint8_t *cube, size_t cube_len,
-    uint8_t *flags, size_t flags_len,
-    size_t l1, size_t l2, size_t l3, size_t w);
+    uint8_t *cube, uint64_t cube_len,
+    uint8_t *flags, uint64_t flags_len,
+    uint64_t l1, uint64_t l2, uint64_t l3, uint64_t w);
 
 /* One mending pass along an axis: on each line, in each layer, the one wrong byte that the two sums point to is put right. A line
  * whose sums point to no place of it keeps its bytes. A refusal changes nothing. Checks: 1 of a length or the axis, 2, 3, 4. */
-uint64_t jibrufath_mend_pass(
-    uint8_t *cube, size_t cube_len,
-    size_t l1, size_t l2, size_t l3, size_t w,
-    size_t axis);
+uint64_t jibrufath_mend_axis(
+    uint8_t *cube, uint64_t cube_len,
+    uint64_t l1, uint64_t l2, uint64_t l3, uint64_t w,
+    uint64_t axis);
 
 /* Passes along axes 1, 2 and 3; cube and flags are only read.
  *
@@ -166,10 +216,10 @@ uint64_t jibrufath_mend_pass(
  *
  * Checks: 1, 2, 3, 4, 5 of all flags, 15, 16. */
 uint64_t jibrufath_mend(
-    const uint8_t *cube, size_t cube_len,
-    const uint8_t *flags, size_t flags_len,
-    uint8_t *second, size_t second_len,
-    size_t l1, size_t l2, size_t l3, size_t w);
+    const uint8_t *cube, uint64_t cube_len,
+    const uint8_t *flags, uint64_t flags_len,
+    uint8_t *second, uint64_t second_len,
+    uint64_t l1, uint64_t l2, uint64_t l3, uint64_t w);
 
 /* The field: bytes as binary polynomials modulo 1C3h. The sum is a ^ b. */
 

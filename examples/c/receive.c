@@ -1,4 +1,5 @@
-/* Writes a small file as packets, loses some of them and receives the rest: once with enough of them, once without.
+/* Writes a small file as packets, loses some of them and receives the rest: once with enough of them, once without. Then two packs that
+ * a receiver must not trust.
  * cc -std=c99 -Iinclude examples/c/receive.c target/staticlib/libjibrufath.a -o receive */
 #include "jibrufath.h"
 
@@ -17,7 +18,7 @@ enum {
 static uint8_t job[HEAD + ROOM], output[HEAD + CELLS * PACKET], air[sizeof output];
 static uint8_t cube[W * CELLS], flags[CELLS], file[ROOM];
 
-static void put_count(uint8_t *at, size_t count)
+static void put_count(uint8_t *at, uint64_t count)
 {
     for (int i = 0; i < 4; i++)
         at[i] = (uint8_t)(count >> (8 * i));
@@ -32,27 +33,40 @@ static uint64_t write_text(const char *text)
     put_count(job + 9, len);
     memcpy(job + 13, text, len);
     put_count(job + 13 + len, 0);
-    return jibrufath_write(job, HEAD + len, cube, sizeof cube, output, sizeof output);
+    return jibrufath_write_pack(job, HEAD + len, cube, sizeof cube, output, sizeof output);
 }
 
-/* Receives the packets from one cell on, and says what came of them. */
-static void receive_from(size_t first)
+/* Leaves in air the packets from one cell on, and answers with the bytes of that pack. */
+static uint64_t lose_before(uint64_t first)
 {
-    uint64_t counts[JIBRUFATH_COUNTS];
-    size_t packets = CELLS - first;
+    uint64_t packets = CELLS - first;
     memcpy(air, output, HEAD);
     put_count(air + 13, packets);
     memcpy(air + HEAD, output + HEAD + first * PACKET, packets * PACKET);
+    return HEAD + packets * PACKET;
+}
 
-    uint64_t answer = jibrufath_receive(
-        air, HEAD + packets * PACKET, cube, sizeof cube, flags, sizeof flags, file, sizeof file, counts);
-    printf("%zu packets lost: ", first);
-    if (jibrufath_number(answer) != JIBRUFATH_OK)
+/* Receives what stands in air, if the memory above is enough for it, and says what came of it. */
+static void receive(uint64_t air_len)
+{
+    uint64_t needs[JIBRUFATH_NEEDS], counts[JIBRUFATH_COUNTS];
+    uint64_t answer = jibrufath_needs(air, air_len, needs);
+    const uint64_t cube_len = needs[JIBRUFATH_NEED_CUBE_BYTES], flags_len = needs[JIBRUFATH_NEED_CELLS],
+                   file_len = needs[JIBRUFATH_NEED_FILE_BYTES];
+    if (cube_len > sizeof cube || flags_len > sizeof flags || file_len > sizeof file) {
+        printf("no room for a cube of %llu bytes\n", (unsigned long long)cube_len);
+        return;
+    }
+    if (answer == JIBRUFATH_OK)
+        answer = jibrufath_receive_pack(air, air_len, cube, cube_len, flags, flags_len, file, file_len, counts);
+    if (jibrufath_number(answer) == JIBRUFATH_CELL_INDEX || jibrufath_number(answer) == JIBRUFATH_CONFLICT)
+        printf("refused %d, packet %d\n", (int)jibrufath_number(answer), (int)jibrufath_count(answer));
+    else if (jibrufath_number(answer) != JIBRUFATH_OK)
         printf("refused %d\n", (int)jibrufath_number(answer));
     else if (jibrufath_count(answer) > 0)
         printf("%d cells left\n", (int)jibrufath_count(answer));
     else
-        printf("\"%.*s\"\n", (int)counts[JIBRUFATH_FILE_BYTES], (const char *)file);
+        printf("\"%.*s\"\n", (int)counts[JIBRUFATH_COUNT_FILE_BYTES], (const char *)file);
 }
 
 int main(void)
@@ -63,12 +77,15 @@ int main(void)
         return 1;
     }
     printf("%d packets of %d bytes written\n", CELLS, W);
-    receive_from(2 * L1 * L2);
-    receive_from(3 * L1 * L2);
+    for (int planes = 2; planes <= 3; planes++) {
+        printf("%d packets lost: ", planes * L1 * L2);
+        receive(lose_before((uint64_t)planes * L1 * L2));
+    }
+    printf("a packet for a cell outside the cube: ");
     air[HEAD] = L1;
-    answer = jibrufath_receive(
-        air, HEAD + 2 * L1 * L2 * PACKET, cube, sizeof cube, flags, sizeof flags, file, sizeof file, (uint64_t[16]){0});
-    printf("a packet for a cell outside the cube: refused %d, packet %d\n", (int)jibrufath_number(answer),
-        (int)jibrufath_count(answer));
+    receive(HEAD + 2 * L1 * L2 * PACKET);
+    printf("a pack of another shape: ");
+    memset(air + 4, 255, 3);
+    receive(HEAD);
     return 0;
 }

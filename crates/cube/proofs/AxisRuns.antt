@@ -1,30 +1,22 @@
 -- The lines of an axis in runs: a block is the stride × length cells of `stride` lines that lie side by side. Line number q · W + t of the
 -- block's run of bytes is layer t of the block's line q.
-use mathlib.Core.Path.{_≡_, refl, sym, ap, ap₂, _∙_}
-use mathlib.Core.Bool.{Bool, true, false, cond}
+use mathlib.Core.Path.{_≡_, refl, ap, ap₂, _∙_}
 use mathlib.Core.List.{List}
 use Prim.Native.Nat.{ℕ, _+_, _-_, _*_, _/_, _%_, _≤_, _<_}
 use native.Mathlib.Nat.{mul-assoc, mul-comm, mul-left-comm, add-mul, add-assoc, add-comm, add-left-comm, add-zero, mul-suc, mul-one, one-mul, mul-le-mul-right, mul-le-mul-left, div-add-mod', mod-lt, add-mod-right, mul-mod-left, mul-div-cancel, add-div-right, div-lt-iff-lt-mul}
 use native.Mathlib.Decide.{decLt}
 use native.Mathlib.Omega.{arith}
 use lib.Arith.{digits-div, digits-mod}
-use lib.Dec.{ltb}
 use lib.ListN.{getD}
-use borrow.Author.Tests.{ltb-true}
 use Rattle.span.proofs.Stretches.{stretch-end}
-use Rattle.cube.specs.declared.Shape.{Shape}
-use Rattle.cube.specs.declared.Line.{Line}
-use Rattle.cube.specs.declared.LineAnswer.{LineAnswer}
-use Rattle.cube.specs.declared.LineAnswer.the-variants.{Found, Refused}
-use Rattle.cube.specs.declared.Measured.{Measured}
-use Rattle.cube.specs.declared.Measured.the-variants.{Fits, Misfit}
-use Rattle.cube.specs.declared.Refusal.{Refusal}
-use Rattle.cube.specs.declared.Refusal.the-variants.{Plain}
-use Rattle.cube.specs.declared.Fault.the-variants.{Dimension}
-use Rattle.cube.specs.Shapes.{Valid, within, cells, measured, strideOf, lengthOf, linesOf, firstOf, lineOf, lineIn}
+use Rattle.shape.specs.declared.Shape.{Shape}
+use Rattle.shape.specs.declared.Line.{Line}
+use Rattle.answer.specs.declared.Refusal.{Refusal}
+use Rattle.answer.specs.Values.{passes, checked, refusal}
+use Rattle.answer.proofs.Values.{refusal-gives}
+use Rattle.shape.specs.Shapes.{Valid, cells, strideOf, lengthOf, linesOf, firstOf, lineOf}
 use Rattle.cube.specs.Cube.{layer, layerLine}
-use Rattle.cube.proofs.Valid.{within-parts, measured-fits}
-use Rattle.cube.proofs.Geometry.{outerOf, linesOf-outer, cells-outer, strideOf-pos, lengthOf-low, lengthOf-high, line-of}
+use Rattle.shape.proofs.Geometry.{outerOf, linesOf-outer, cells-outer, strideOf-pos, lengthOf-low, lengthOf-high, line-of, line-passed}
 use Rattle.line.specs.declared.Run.{Run}
 use Rattle.line.specs.Run.{lineAt, Inside}
 
@@ -37,32 +29,19 @@ pub record Located (sh : Shape) (axis m : ℕ) (l : Line) : Type 0 where
   pub below : m < linesOf sh axis
   pub same : l ≡ record { first = firstOf sh axis m; stride = strideOf sh axis; len = lengthOf sh axis }
 
-found-passed : (b : Bool) (x : LineAnswer) (f : Refusal) (l : Line) → cond b x (Refused f) ≡ Found l → (b ≡ true) × (x ≡ Found l)
-found-passed true x f l e = (refl, e)
-found-passed false x f l e = let n : _≡_ {A = ℕ} 0 1 = cc in absurd (omega arith)
-
-shape-passed : (sh : Shape) (axis m : ℕ) (x : Measured) (l : Line) → x ≡ measured sh → lineIn sh axis m x ≡ Found l
-    → Valid sh × (m < linesOf sh axis) × (l ≡ record { first = firstOf sh axis m; stride = strideOf sh axis; len = lengthOf sh axis })
-unfolding lineIn
-shape-passed sh axis m (Misfit f) l p e = let n : _≡_ {A = ℕ} 0 1 = cc in absurd (omega arith)
-shape-passed sh axis m (Fits z) l p e =
-    let (less, same) = found-passed (ltb m (linesOf sh axis)) _ (Plain Dimension) l e in
-    (measured-fits sh z (sym p) .0, ltb-true m (linesOf sh axis) less, cc)
-
 -- a line that is found is that line of a valid shape
-pub located : (sh : Shape) (axis m : ℕ) (l : Line) → lineOf sh axis m ≡ Found l → Located sh axis m l
-unfolding lineOf
+pub located : (sh : Shape) (axis m : ℕ) (l : Line) → lineOf sh axis m ≡ passes l → Located sh axis m l
 located sh axis m l e =
-    let (on, rest) = found-passed (within 1 3 axis) _ (Plain Dimension) l e in
-    let (v, less, same) = shape-passed sh axis m (measured sh) l refl rest in
-    let (low, high) = within-parts 1 3 axis on in
+    let (v, low, high, less, same) = line-passed sh axis m l e in
     record { valid = v; low = low; high = high; below = less; same = same }
 
 -- an axis ends where its lines are refused
-pub lines-ended : (sh : Shape) (axis m : ℕ) (f : Refusal) → Valid sh → 1 ≤ axis → axis ≤ 3 → lineOf sh axis m ≡ Refused f → linesOf sh axis ≤ m
+pub lines-ended : (sh : Shape) (axis m : ℕ) (f : Refusal) → Valid sh → 1 ≤ axis → axis ≤ 3 → refusal {A = Line} f ≡ checked (lineOf sh axis m)
+    → linesOf sh axis ≤ m
+unfolding checked
 lines-ended sh axis m f v low high e =
     elim (decLt m (linesOf sh axis)) [
-      | yes l ↦ let here = line-of sh axis m v low high l in let n : _≡_ {A = ℕ} 0 1 = cc in absurd (omega arith)
+      | yes l ↦ absurd (refusal-gives f _ (rw (line-of sh axis m v low high l) at e))
       | no n ↦ omega arith
     ]
 
@@ -138,12 +117,12 @@ lineAt-run sh xs l q t i = ap (λ (p : ℕ). getD xs p 0) (simp (add-mul, mul-as
 pub record Begins (sh : Shape) (axis m : ℕ) (l : Line) : Type 0 where
   pub first-of : firstOf sh axis m ≡ l .first
   pub next-first : firstOf sh axis (m + l .stride) ≡ l .first + l .stride * l .len
-  pub earlier : (k : ℕ) (k-line : Line) (i : ℕ) → k < m → lineOf sh axis k ≡ Found k-line → i < k-line .len → k-line .first + k-line .stride * i < l .first
+  pub earlier : (k : ℕ) (k-line : Line) (i : ℕ) → k < m → lineOf sh axis k ≡ passes k-line → i < k-line .len → k-line .first + k-line .stride * i < l .first
   pub stride-of : l .stride ≡ strideOf sh axis
   pub some-stride : 0 < l .stride
   pub next : m + l .stride ≤ linesOf sh axis
   pub next-aligned : (m + l .stride) % strideOf sh axis ≡ 0
-  pub beside : (q : ℕ) → q < l .stride → lineOf sh axis (m + q) ≡ Found (lineBeside l q)
+  pub beside : (q : ℕ) → q < l .stride → lineOf sh axis (m + q) ≡ passes (lineBeside l q)
   pub inside : Inside (runFrom (sh .w) l) (sh .w * cells sh)
   pub first-small : l .first * sh .w ≤ 268435456
   pub stride-small : l .stride * sh .w ≤ 268435456
@@ -176,7 +155,7 @@ begins-block sh axis b v low high less =
       next-aligned = add-mod-right (b * s) s ∙ mul-mod-left b s;
       beside = λ q l.
           line-of sh axis (b * s + q) v low high (omega arith)
-          ∙ ap₂ (λ (d m : ℕ). Found (record { first = d * (s * n) + m; stride = s; len = n })) (digits-div b l) (digits-mod b l);
+          ∙ ap₂ (λ (d m : ℕ). passes (record { first = d * (s * n) + m; stride = s; len = n })) (digits-div b l) (digits-mod b l);
       inside = record { some-place = some; few-places = lengthOf-high sh axis v; apart = omega arith; fits = fits };
       first-small = omega (arith, fits 0 some, v .volume);
       stride-small = omega (arith, fits 0 some, v .volume);
@@ -184,7 +163,7 @@ begins-block sh axis b v low high less =
     }
 
 -- a line whose number is a multiple of the stride is the first of a block
-pub begins : (sh : Shape) (axis m : ℕ) (l : Line) → lineOf sh axis m ≡ Found l → m % strideOf sh axis ≡ 0 → Begins sh axis m l
+pub begins : (sh : Shape) (axis m : ℕ) (l : Line) → lineOf sh axis m ≡ passes l → m % strideOf sh axis ≡ 0 → Begins sh axis m l
 unfolding firstOf
 begins sh axis m l e aligned =
     let s = strideOf sh axis in
@@ -198,8 +177,8 @@ begins sh axis m l e aligned =
 
 -- the lines from the first of a block on are those beside it
 pub beside-is : (sh : Shape) (axis m : ℕ) (l : Line) → Begins sh axis m l → (k : ℕ) (k-line : Line) → m ≤ k → k < m + l .stride
-    → lineOf sh axis k ≡ Found k-line → k-line ≡ lineBeside l (k - m)
+    → lineOf sh axis k ≡ passes k-line → k-line ≡ lineBeside l (k - m)
 beside-is sh axis m l b k k-line le less e =
     let number : m + (k - m) ≡ k = omega arith in
-    let h : lineOf sh axis k ≡ Found (lineBeside l (k - m)) = rw number at (b .beside (k - m) (omega arith)) in
+    let h : lineOf sh axis k ≡ passes (lineBeside l (k - m)) = rw number at (b .beside (k - m) (omega arith)) in
     cc

@@ -1,12 +1,12 @@
 -- Byte geometry: rows, planes and cells one after the other, and the sizes of a valid shape.
 use mathlib.Core.Path.{_≡_}
 use Prim.Native.Nat.{ℕ, _+_, _*_, _-_, _≤_, _<_}
-use native.Mathlib.Nat.{mul-le-mul-right, mul-le-mul, mul-assoc, mul-comm, mul-left-comm, mul-add, add-assoc, add-comm, add-left-comm}
+use native.Mathlib.Nat.{mul-le-mul, mul-assoc, mul-comm, mul-left-comm, mul-add, add-assoc, add-comm, add-left-comm}
 use native.Mathlib.Omega.{arith}
 use Rattle.span.proofs.Stretches.{stretch-end}
-use Rattle.cube.specs.declared.Shape.{Shape}
-use Rattle.cube.specs.Shapes.{Valid, cells, capacity}
-use Rattle.cube.specs.Plane.{spot, planeBytes, partBytes}
+use Rattle.shape.specs.declared.Shape.{Shape}
+use Rattle.shape.specs.Shapes.{Valid, cells}
+use Rattle.cube.specs.Inner.Encoder.{spot, planeBytes, partBytes}
 
 -- the sizes of rows and planes fit a word
 pub record Small (sh : Shape) : Type 0 where
@@ -34,22 +34,6 @@ small sh v =
 pub rows-in-plane : (m n w : ℕ) → n * (m * w) ≡ m * n * w
 rows-in-plane m n w = simp (mul-assoc, mul-left-comm)
 
--- the data rows of a plane fit their rows, the plane's data and the plane
-pub record RowsFit (sh : Shape) : Type 0 where
-  pub width : (sh .l1 - 2) * sh .w ≤ sh .l1 * sh .w
-  pub part : (sh .l2 - 2) * ((sh .l1 - 2) * sh .w) ≤ partBytes sh
-  pub plane : (sh .l2 - 2) * (sh .l1 * sh .w) ≤ planeBytes sh
-
-pub rows-fit : (sh : Shape) → RowsFit sh
-rows-fit sh =
-    let cells : sh .l1 - 2 ≤ sh .l1 = omega arith in
-    let rows : sh .l2 - 2 ≤ sh .l2 = omega arith in
-    record {
-      width = mul-le-mul-right (sh .w) cells;
-      part = omega (arith, rows-in-plane (sh .l1 - 2) (sh .l2 - 2) (sh .w));
-      plane = omega (arith, rows-in-plane (sh .l1) (sh .l2) (sh .w), mul-le-mul-right (sh .l1 * sh .w) rows);
-    }
-
 -- n planes of l times m cells
 pub planes-in-cube : (l m n w : ℕ) → n * (l * m * w) ≡ w * (l * m * n)
 planes-in-cube l m n w = simp (mul-assoc, mul-comm, mul-left-comm)
@@ -76,12 +60,6 @@ pub planes-fill : (sh : Shape) → sh .l3 * planeBytes sh ≡ sh .w * cells sh
 unfolding cells
 planes-fill sh = planes-in-cube (sh .l1) (sh .l2) (sh .l3) (sh .w)
 
--- a plane lies inside the cube, and the data of one that holds data inside the data string
+-- a plane lies inside the cube
 pub plane-inside : (sh : Shape) (c : ℕ) → c < sh .l3 → c * planeBytes sh + planeBytes sh ≤ sh .w * cells sh
 plane-inside sh c l = omega (arith, stretch-end c (sh .l3) (planeBytes sh) l, planes-fill sh)
-
-pub data-plane-inside : (sh : Shape) (c : ℕ) → c < sh .l3 - 2 → c * partBytes sh + partBytes sh ≤ capacity sh
-unfolding capacity
-data-plane-inside sh c l =
-    omega
-    (arith, stretch-end c (sh .l3 - 2) (partBytes sh) l, planes-in-cube (sh .l1 - 2) (sh .l2 - 2) (sh .l3 - 2) (sh .w))

@@ -12,18 +12,18 @@ use Rattle.span.proofs.Stretches.{stretch-end}
 use Rattle.field.specs.Field.{Primitive}
 use Rattle.line.specs.declared.Run.{Run}
 use Rattle.line.specs.Line.{Codeword}
-use Rattle.line.specs.Run.{lineAt, Inside, Off, Solved, SolveOutcome, erasuresAt}
+use Rattle.line.specs.Run.{lineAt, Inside, Off, SolveRun, erasuresAt}
 use Rattle.line.proofs.Codeword.{codeword-cong}
 use Rattle.line.proofs.Erasure.{completed-off}
-use Rattle.line.proofs.Runs.{written-solved, solved-lines, solved-codewords}
-use Rattle.cube.specs.Plane.{spot}
+use Rattle.line.proofs.Runs.{Solved, written-solved, solved-lines, solved-codewords}
+use Rattle.cube.specs.Inner.Encoder.{spot}
 use Rattle.cube.proofs.Bytes.{rows-in-plane, spot-low, spot-row, spot-plane}
 
 -- `solve` fills the erasures in where the run lies inside and they are places of it
 pub outcome-solved : (r : ℕ) (run : Run) (j k : ℕ) (before after : List ℕ) (answer : Bool)
-    → SolveOutcome r run (erasuresAt r j k) before after answer → Inside run (length before) → j ≤ k → k < run .len → Solved r run j k before after
+    → SolveRun r run (erasuresAt r j k) before after answer → Inside run (length before) → j ≤ k → k < run .len → Solved r run j k before after
 unfolding erasuresAt
-outcome-solved r run j k before after answer o inside le l = written-solved (o .written (o .yes-when inside le l))
+outcome-solved r run j k before after answer o inside le l = written-solved (o .done (inside, le, l) .1)
 
 -- place i of line t
 line-byte : (s : List ℕ) (run : Run) (t i : ℕ) → lineAt s run t i ≡ getD s (run .first + (i * run .stride + t)) 0

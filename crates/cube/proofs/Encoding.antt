@@ -2,7 +2,7 @@
 -- right on the data columns, whose lines of axis 2 are right in every plane, and so on every row.
 use mathlib.Core.Path.{_≡_, refl, sym, ap, _∙_}
 use mathlib.Core.List.{List}
-use Prim.Native.Nat.{ℕ, _+_, _*_, _-_, _<_}
+use Prim.Native.Nat.{ℕ, _+_, _*_, _-_, _≤_, _<_}
 use native.Mathlib.Omega.{arith}
 use native.Mathlib.Decide.{ℕ-discrete}
 use lib.ListN.{length, getD}
@@ -12,15 +12,15 @@ use Rattle.line.specs.declared.Run.{Run}
 use Rattle.line.specs.Line.{Codeword}
 use Rattle.line.specs.Run.{Inside, Feeds, Encoded}
 use Rattle.line.proofs.Codeword.{codeword-cong}
-use Rattle.cube.specs.declared.Shape.{Shape}
-use Rattle.cube.specs.Shapes.{Valid, cells, capacity, IsLine, axis1, axis2, axis3}
-use Rattle.cube.specs.Cube.{layer, layerLine, CodeCube}
-use Rattle.cube.specs.Plane.{spot, planeBytes, RowsEncoded, PlanesCoded, PlanesHeld}
-use Rattle.cube.proofs.Geometry.{axis1-cell, axis2-cell, axis3-cell}
-use Rattle.cube.proofs.Bytes.{planes-in-cube, planes-fill}
+use Rattle.line.proofs.Runs.{encoded-placed, encoded-codewords}
+use Rattle.shape.specs.declared.Shape.{Shape}
+use Rattle.shape.specs.Shapes.{Valid, cells, capacity, cell, IsLine, along, axis1, axis2, axis3}
+use Rattle.cube.specs.Cube.{layer, layerLine, CodeCube, HoldsData}
+use Rattle.cube.specs.Inner.Encoder.{spot, planeBytes, RowsEncoded, PlanesCoded}
+use Rattle.shape.proofs.Geometry.{axis1-cell, axis2-cell, axis3-cell}
+use Rattle.cube.proofs.Bytes.{planes-in-cube, cell-byte, planes-fill}
 use Rattle.cube.proofs.Completing.{acrossRun, across-inside, across-byte, across-off}
 use Rattle.cube.proofs.Parity.{crossing}
-use Rattle.cube.proofs.DataString.{layer-byte}
 
 -- ---- the data rows
 
@@ -52,20 +52,22 @@ pub rows-encoded-none : (r : ℕ) (sh : Shape) (ds xs : List ℕ) → RowsEncode
 rows-encoded-none r sh ds xs = record { lines = λ a b t l k h. absurd (omega arith); holds = λ a b c t l k m h. absurd (omega arith) }
 
 -- one more row
-module _ (r : ℕ) (sh : Shape) (n : ℕ) (ds before after : List ℕ) (less : n < sh .l2 - 2) (encoded : Encoded r (rowsFrom sh n) (rowsTo sh n) ds before after) where
+module _ (r : ℕ) (sh : Shape) (n : ℕ) (ds before after : List ℕ) (less : n < sh .l2 - 2) (prim : Primitive r)
+    (few : rowsTo sh n .len ≤ 255) (fed : Feeds (rowsFrom sh n) (rowsTo sh n) (length ds))
+    (encoded : Encoded r (rowsFrom sh n) (rowsTo sh n) ds before after) where
   new-line : (a t : ℕ) → a < sh .l1 - 2 → t < sh .w
       → Codeword r (λ c. getD after (c * planeBytes sh + spot (sh .l1) (sh .w) a n t) 0) (sh .l3)
   unfolding rowsTo acrossRun
   new-line a t l h =
       codeword-cong r _ _ (sh .l3) (λ c m. across-byte (sh .l1) (sh .l2) (sh .l3) (sh .w) (sh .l1 - 2) n after a t c)
-      (encoded .codewords (a * sh .w + t) (omega (arith, stretch-end a (sh .l1 - 2) (sh .w) l)))
+      (encoded-codewords fed encoded prim few (a * sh .w + t) (omega (arith, stretch-end a (sh .l1 - 2) (sh .w) l)))
 
   new-data : (a c t : ℕ) → a < sh .l1 - 2 → c < sh .l3 - 2 → t < sh .w
       → getD ds (c * ((sh .l1 - 2) * (sh .l2 - 2) * sh .w) + spot (sh .l1 - 2) (sh .w) a n t) 0 ≡ getD after (c * planeBytes sh + spot (sh .l1) (sh .w) a n t) 0
   unfolding rowsFrom rowsTo acrossRun
   new-data a c t l m h =
       sym (across-byte (sh .l1 - 2) (sh .l2 - 2) (sh .l3 - 2) (sh .w) (sh .l1 - 2) n ds a t c)
-      ∙ sym (encoded .placed (a * sh .w + t) (omega (arith, stretch-end a (sh .l1 - 2) (sh .w) l)) c m)
+      ∙ sym (encoded-placed fed encoded (a * sh .w + t) (omega (arith, stretch-end a (sh .l1 - 2) (sh .w) l)) c m)
       ∙ across-byte (sh .l1) (sh .l2) (sh .l3) (sh .w) (sh .l1 - 2) n after a t c
 
   old-kept : (a b c t : ℕ) → a < sh .l1 - 2 → b < n → t < sh .w
@@ -93,6 +95,12 @@ module _ (r : ℕ) (sh : Shape) (n : ℕ) (ds before after : List ℕ) (less : n
 
 -- ---- the cube
 
+-- byte t of cell (a, b, c)
+layer-byte : (sh : Shape) (xs : List ℕ) (a b c t : ℕ)
+    → layer sh xs t (cell sh a b c) ≡ getD xs (c * planeBytes sh + spot (sh .l1) (sh .w) a b t) 0
+unfolding layer cell
+layer-byte sh xs a b c t = ap (λ (p : ℕ). getD xs p 0) (cell-byte (sh .l1) (sh .l2) (sh .w) a b c t)
+
 module _ (r : ℕ) (prim : Primitive r) (sh : Shape) (v : Valid sh) (ds before after : List ℕ) (bytes : (p : ℕ) → getD after p 0 < 256)
     (rows : RowsEncoded r sh (sh .l2 - 2) ds before) (planes : PlanesCoded r sh (sh .l3) before after) where
   -- a line of axis 3 through data cells, through data columns, and through any cells
@@ -115,19 +123,26 @@ module _ (r : ℕ) (prim : Primitive r) (sh : Shape) (v : Valid sh) (ds before a
 
   line-codeword : (first stride len : ℕ) → IsLine sh first stride len → (t : ℕ) → t < sh .w → Codeword r (layerLine sh after t first stride) len
   unfolding layerLine
-  line-codeword _ _ _ (axis1 b c l k) t h =
+  line-codeword _ _ _ (along (axis1 b c l k)) t h =
       codeword-cong r _ _ (sh .l1) (λ a m. sym (ap (layer sh after t) (axis1-cell sh b c a) ∙ layer-byte sh after a b c t))
       (planes .coded c k .rows b t l h)
-  line-codeword _ _ _ (axis2 a c l k) t h =
+  line-codeword _ _ _ (along (axis2 a c l k)) t h =
       codeword-cong r _ _ (sh .l2) (λ b m. sym (ap (layer sh after t) (axis2-cell sh a c b) ∙ layer-byte sh after a b c t))
       (planes .coded c k .columns a t l h)
-  line-codeword _ _ _ (axis3 a b l k) t h =
+  line-codeword _ _ _ (along (axis3 a b l k)) t h =
       codeword-cong r _ _ (sh .l3) (λ c m. sym (ap (layer sh after t) (axis3-cell sh a b c) ∙ layer-byte sh after a b c t))
       (across a b t l k h)
 
   pub code-cube : length after ≡ sh .w * cells sh → CodeCube r sh after
-  code-cube size = record { size = size; lines = line-codeword }
+  code-cube size = record { size = size; bytes = bytes; lines = line-codeword }
 
-  pub data-held : PlanesHeld sh (sh .l3 - 2) after ds
-  data-held =
-      record { bytes = λ a b c t l k m h. rows .holds a b c t l k m h ∙ sym (planes .coded c (omega arith) .kept a b t l k h) }
+  pub data-held : length ds ≡ capacity sh → HoldsData sh after ds
+  data-held size =
+      record {
+        size = size;
+        bytes = λ a b c t l k m h.
+            ap (λ (p : ℕ). getD ds p 0) (cell-byte (sh .l1 - 2) (sh .l2 - 2) (sh .w) a b c t)
+            ∙ rows .holds a b c t l k m h
+            ∙ sym (planes .coded c (omega arith) .kept a b t l k h)
+            ∙ sym (layer-byte sh after a b c t);
+      }

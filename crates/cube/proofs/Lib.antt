@@ -1,17 +1,18 @@
--- Why the crate `cube` meets its contracts: the laws of shapes and lines, that a code cube is determined by its data, and
--- that the encoder writes it.
-pub mod Valid
-pub mod Geometry
+-- Why the crate `cube` meets its contracts: that exactly one code cube has given data, and that the encoder writes it.
+pub mod Checks
 pub mod Unique
-pub mod Scan
+pub mod Tables
+pub mod Existence
+pub mod Axes
+pub mod HeldData
+pub mod Reading
 pub mod AxisRuns
 pub mod RightLines
 pub mod Bytes
-pub mod Copying
 pub mod Lending
-pub mod DataString
 pub mod Completing
 pub mod Parity
 pub mod Planes
 pub mod Encoding
 pub mod Outcomes
+pub mod Checking

@@ -9,11 +9,12 @@ use lib.ListN.{length, getD}
 use Rattle.span.proofs.Stretches.{stretch-end}
 use Rattle.field.specs.Field.{Primitive}
 use Rattle.line.specs.Line.{Codeword}
-use Rattle.line.specs.Run.{Inside, Solved}
+use Rattle.line.specs.Run.{Inside}
+use Rattle.line.proofs.Runs.{Solved}
 use Rattle.line.proofs.Codeword.{codeword-cong}
-use Rattle.cube.specs.declared.Shape.{Shape}
-use Rattle.cube.specs.Shapes.{Valid}
-use Rattle.cube.specs.Plane.{spot, RowsCompleted, PlaneCode, planeBytes, PlanesCoded}
+use Rattle.shape.specs.declared.Shape.{Shape}
+use Rattle.shape.specs.Shapes.{Valid}
+use Rattle.cube.specs.Inner.Encoder.{spot, RowsCompleted, PlaneCode, planeBytes, PlanesCoded}
 use Rattle.cube.proofs.Bytes.{spot-plane}
 use Rattle.cube.proofs.Lending.{lent, returned, lent-at, returned-at, returned-below, returned-above}
 use Rattle.cube.proofs.Completing.{rowRun, row-codeword, row-data, row-other, columnsRun, column-codeword, column-data}

@@ -3,16 +3,16 @@ use mathlib.Core.Path.{_≡_, sym, _∙_}
 use mathlib.Core.List.{List}
 use Prim.Native.Nat.{ℕ, _+_, _-_, _*_, _/_, _%_, _≤_, _<_}
 use native.Mathlib.Nat.{mod-lt, mod-one, mod-self, zero-mod, mul-mod-left, add-mod-right, mul-comm, div-add-mod', div-lt-iff-lt-mul}
-use native.Mathlib.Decide.{ℕ-discrete, decLt}
+use native.Mathlib.Decide.{decLt}
 use native.Mathlib.Omega.{arith}
-use lib.ListN.{length}
+use lib.ListN.{length, getD}
 use Rattle.span.proofs.Stretches.{stretch-end}
-use Rattle.cube.specs.declared.Shape.{Shape}
-use Rattle.cube.specs.declared.Line.{Line}
-use Rattle.cube.specs.Shapes.{Valid, cells, strideOf, linesOf}
+use Rattle.shape.specs.declared.Shape.{Shape}
+use Rattle.shape.specs.declared.Line.{Line}
+use Rattle.shape.specs.Shapes.{Valid, cells, strideOf, linesOf}
 use Rattle.cube.specs.Cube.{CodeCube}
-use Rattle.cube.specs.Check.{Blocks, LinesRight}
-use Rattle.cube.proofs.Geometry.{line-found, line-every}
+use Rattle.cube.specs.Inner.Checker.{Blocks, LinesRight}
+use Rattle.shape.proofs.Geometry.{axis-cases, line-found, line-every}
 use Rattle.cube.proofs.AxisRuns.{Begins, runFrom, lineBeside, lineAt-run, beside-is, layer-below, factor-below}
 use Rattle.line.specs.Line.{Codeword}
 use Rattle.line.specs.Run.{lineAt}
@@ -58,19 +58,13 @@ module _ (r : ℕ) (sh : Shape) (axis : ℕ) (xs : List ℕ) where
   pub code-axis : CodeCube r sh xs → LinesRight r sh axis 0 (linesOf sh axis) xs
   code-axis h = record { lines = λ m l over less e. h .lines (l .first) (l .stride) (l .len) (line-found sh axis m l e) }
 
-axis-cases : (P : ℕ → Type 0) → P 1 → P 2 → P 3 → (axis : ℕ) → 1 ≤ axis → axis ≤ 3 → P axis
-axis-cases P one two three axis low high =
-    elim (ℕ-discrete axis 1) [
-      | yes e ↦ rw e one
-      | no n1 ↦ elim (ℕ-discrete axis 2) [ yes e ↦ rw e two | no n2 ↦ let e : axis ≡ 3 = omega arith in rw e three ]
-    ]
-
 -- a cube whose three axes are right is a code cube
-pub axes-code : (r : ℕ) (sh : Shape) (xs : List ℕ) → Valid sh → length xs ≡ sh .w * cells sh → LinesRight r sh 1 0 (linesOf sh 1) xs
+pub axes-code : (r : ℕ) (sh : Shape) (xs : List ℕ) → Valid sh → length xs ≡ sh .w * cells sh → ((p : ℕ) → getD xs p 0 < 256) → LinesRight r sh 1 0 (linesOf sh 1) xs
     → LinesRight r sh 2 0 (linesOf sh 2) xs → LinesRight r sh 3 0 (linesOf sh 3) xs → CodeCube r sh xs
-axes-code r sh xs v size one two three =
+axes-code r sh xs v size bytes one two three =
     record {
       size = size;
+      bytes = bytes;
       lines = λ first stride len line.
           let (axis, m, low, high, less, e) = line-every sh first stride len v line in
           axis-cases (λ a. LinesRight r sh a 0 (linesOf sh a) xs) one two three axis low high .lines m _ (omega arith) less e;

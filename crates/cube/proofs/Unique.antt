@@ -7,10 +7,10 @@ use native.Mathlib.Nat.{mul-comm, mul-pos, mod-lt, div-add-mod', div-lt-iff-lt-m
 use native.Mathlib.Omega.{arith}
 use lib.ListN.{length, getD}
 use lib.Seq.{ext-getD}
-use Rattle.cube.specs.declared.Shape.{Shape}
-use Rattle.cube.specs.Shapes.{Valid, cells, capacity, cell, IsLine, axis1, axis2, axis3}
+use Rattle.shape.specs.declared.Shape.{Shape}
+use Rattle.shape.specs.Shapes.{Valid, cells, capacity, cell, IsLine, along, axis1, axis2, axis3}
 use Rattle.cube.specs.Cube.{layer, layerLine, CodeCube, HoldsData}
-use Rattle.cube.proofs.Geometry.{cell-coordinates, third-lt, axis1-cell, axis2-cell, axis3-cell, line-length-low, line-length-high}
+use Rattle.shape.proofs.Geometry.{cell-coordinates, third-lt, axis1-cell, axis2-cell, axis3-cell, line-length-low, line-length-high}
 use Rattle.field.specs.Field.{Primitive}
 use Rattle.line.proofs.Codeword.{codeword-unique}
 
@@ -35,7 +35,7 @@ cells-ext sh xs ys one two some p q same = ext-getD 0 xs ys (p ∙ sym q) byte
 
 -- ---- the code cube of a data string
 
-module _ (r : ℕ) (p : Primitive r) (sh : Shape) (valid : Valid sh) (xs ys : List ℕ) (bx : (i : ℕ) → getD xs i 0 < 256) (by : (i : ℕ) → getD ys i 0 < 256)
+module _ (r : ℕ) (p : Primitive r) (sh : Shape) (valid : Valid sh) (xs ys : List ℕ)
     (cx : CodeCube r sh xs) (cy : CodeCube r sh ys) where
   -- a line that is the same in both but for its parity is the same in both
   line-agrees : (f s n w : ℕ) → IsLine sh f s n → w < sh .w
@@ -44,7 +44,7 @@ module _ (r : ℕ) (p : Primitive r) (sh : Shape) (valid : Valid sh) (xs ys : Li
   unfolding layer layerLine
   line-agrees f s n w l h same =
       codeword-unique r (layerLine sh xs w f s) (layerLine sh ys w f s) n (n - 2) (n - 1) p (line-length-high sh f s n valid l)
-      (λ i _. bx _) (λ i _. by _) (cx .lines f s n l w h) (cy .lines f s n l w h)
+      (λ i _. cx .bytes _) (λ i _. cy .bytes _) (cx .lines f s n l w h) (cy .lines f s n l w h)
       (λ i g d e. same i (omega (arith, line-length-low sh f s n valid l)))
 
   module _ (w : ℕ) (h : w < sh .w) where
@@ -52,19 +52,19 @@ module _ (r : ℕ) (p : Primitive r) (sh : Shape) (valid : Valid sh) (xs ys : Li
         → ((a : ℕ) → a < sh .l1 - 2 → layer sh xs w (cell sh a b c) ≡ layer sh ys w (cell sh a b c))
         → (a : ℕ) → a < sh .l1 → layer sh xs w (cell sh a b c) ≡ layer sh ys w (cell sh a b c)
     along-axis1 b c q t same a g =
-        rw (axis1-cell sh b c a) at (line-agrees _ _ _ w (axis1 b c q t) h (λ i m. rw (axis1-cell sh b c i) (same i m)) a g)
+        rw (axis1-cell sh b c a) at (line-agrees _ _ _ w (along (axis1 b c q t)) h (λ i m. rw (axis1-cell sh b c i) (same i m)) a g)
 
     along-axis2 : (a c : ℕ) → a < sh .l1 → c < sh .l3
         → ((b : ℕ) → b < sh .l2 - 2 → layer sh xs w (cell sh a b c) ≡ layer sh ys w (cell sh a b c))
         → (b : ℕ) → b < sh .l2 → layer sh xs w (cell sh a b c) ≡ layer sh ys w (cell sh a b c)
     along-axis2 a c q t same b g =
-        rw (axis2-cell sh a c b) at (line-agrees _ _ _ w (axis2 a c q t) h (λ i m. rw (axis2-cell sh a c i) (same i m)) b g)
+        rw (axis2-cell sh a c b) at (line-agrees _ _ _ w (along (axis2 a c q t)) h (λ i m. rw (axis2-cell sh a c i) (same i m)) b g)
 
     along-axis3 : (a b : ℕ) → a < sh .l1 → b < sh .l2
         → ((c : ℕ) → c < sh .l3 - 2 → layer sh xs w (cell sh a b c) ≡ layer sh ys w (cell sh a b c))
         → (c : ℕ) → c < sh .l3 → layer sh xs w (cell sh a b c) ≡ layer sh ys w (cell sh a b c)
     along-axis3 a b q t same c g =
-        rw (axis3-cell sh a b c) at (line-agrees _ _ _ w (axis3 a b q t) h (λ i m. rw (axis3-cell sh a b i) (same i m)) c g)
+        rw (axis3-cell sh a b c) at (line-agrees _ _ _ w (along (axis3 a b q t)) h (λ i m. rw (axis3-cell sh a b i) (same i m)) c g)
 
   -- only one code cube has a given data string
   pub code-cube-unique : (ds : List ℕ) → HoldsData sh xs ds → HoldsData sh ys ds → xs ≡ ys

@@ -1,8 +1,7 @@
--- What a reader of the crate `cube` must believe; and, in `Plane` and `Check`, what its own functions promise each other.
-pub mod Refusals
-pub mod Shapes
+-- What a reader of the crate `cube` must believe; and, in `Inner`, what its own functions promise each other.
+pub mod Tables
 pub mod Cube
-pub mod Flags
+pub mod Encoded
+pub mod Theorems
 pub mod Calls
-pub mod Plane
-pub mod Check
+pub mod Inner

@@ -1,26 +1,26 @@
 // The encoder: the data rows with the parity of axis 3, then the parity of axes 2 and 1 plane by plane while a plane is in the cache.
-use crate::Shape;
 use line::Run;
+use shape::Shape;
 ghost use mathlib.Core.Path.{_≡_};
 ghost use Prim.Native.Nat.{_-_, _*_};
 ghost use lib.ListN.{length, getD};
-ghost use Rattle.field.specs.Field.{reduction};
-ghost use Rattle.cube.specs.Shapes.{Valid, cells, capacity};
-ghost use Rattle.cube.specs.Cube.{CodeCube, HoldsData};
-ghost use Rattle.cube.specs.Plane.{planeBytes, RowsCompleted, PlaneCode, PlanesCoded, RowsEncoded};
+ghost use Rattle.field.specs.Field.{Primitive};
+ghost use Rattle.shape.specs.Shapes.{Valid, cells, capacity};
+ghost use Rattle.cube.specs.Encoded.{encoded};
+ghost use Rattle.cube.specs.Inner.Encoder.{planeBytes, RowsCompleted, PlaneCode, PlanesCoded, RowsEncoded};
 
 // Writes the code cube of a data string, both of their exact lengths.
-pub(crate) fn encode_cube(data: &[u8], cube: &mut [u8], sh: Shape)
-    requires { ⌜ Valid sh × (length (now «data») ≡ capacity sh) × (length (now cube) ≡ sh .w * cells sh) ⌝ }
-    ensures { λ r. ⌜ CodeCube reduction sh (now (cube .exit)) × HoldsData sh (now (cube .exit)) (now («data» .entry)) ⌝ }
+pub(crate) fn encode_cube(data: &[u8], cube: &mut [u8], reduction: u8, sh: Shape)
+    requires { ⌜ Valid sh × (length (now «data») ≡ capacity sh) × (length (now cube) ≡ sh .w * cells sh) × Primitive reduction ⌝ }
+    ensures { λ r. ⌜ now (cube .exit) ≡ encoded reduction sh (now («data» .entry)) ⌝ }
 {
-    encode_rows(data, cube, sh);
-    encode_planes(cube, sh);
+    encode_rows(data, cube, reduction, sh);
+    encode_planes(cube, reduction, sh);
 }
 
 // Axis 3: the data rows with the same b, one in each plane, and their parity rows in the last two planes.
-fn encode_rows(data: &[u8], cube: &mut [u8], sh: Shape)
-    requires { ⌜ Valid sh × (length (now «data») ≡ capacity sh) × (length (now cube) ≡ sh .w * cells sh) ⌝ }
+fn encode_rows(data: &[u8], cube: &mut [u8], reduction: u8, sh: Shape)
+    requires { ⌜ Valid sh × (length (now «data») ≡ capacity sh) × (length (now cube) ≡ sh .w * cells sh) × Primitive reduction ⌝ }
     ensures { λ r. ⌜ RowsEncoded reduction sh (sh .l2 - 2) (now («data» .entry)) (now (cube .exit)) ⌝ }
 {
     let l1 = sh.l1;
@@ -44,14 +44,14 @@ fn encode_rows(data: &[u8], cube: &mut [u8], sh: Shape)
             len: l3,
             width: width,
         };
-        line::encode(data, cube, from, to);
+        line::encode(data, cube, reduction, from, to);
         b += 1;
     }
 }
 
 // Lends each plane, a run of bytes inside the cube, to be written with its parity.
-fn encode_planes(cube: &mut [u8], sh: Shape)
-    requires { ⌜ Valid sh × (length (now cube) ≡ sh .w * cells sh) ⌝ }
+fn encode_planes(cube: &mut [u8], reduction: u8, sh: Shape)
+    requires { ⌜ Valid sh × (length (now cube) ≡ sh .w * cells sh) × Primitive reduction ⌝ }
     ensures { λ r. ⌜ PlanesCoded reduction sh (sh .l3) (now (cube .entry)) (now (cube .exit)) ⌝ }
 {
     let plane = sh.l1 * sh.l2 * sh.w;
@@ -60,14 +60,14 @@ fn encode_planes(cube: &mut [u8], sh: Shape)
     while c < planes {
         let at = c * plane;
         let end = at + plane;
-        encode_plane(&mut cube[at..end], sh);
+        encode_plane(&mut cube[at..end], reduction, sh);
         c += 1;
     }
 }
 
 // One plane whose data cells are in place: the parity of axis 2 on the data columns, then that of axis 1 on every row.
-fn encode_plane(plane: &mut [u8], sh: Shape)
-    requires { ⌜ Valid sh × (length (now plane) ≡ planeBytes sh) ⌝ }
+fn encode_plane(plane: &mut [u8], reduction: u8, sh: Shape)
+    requires { ⌜ Valid sh × (length (now plane) ≡ planeBytes sh) × Primitive reduction ⌝ }
     ensures { λ r. ⌜ PlaneCode reduction sh (λ p. getD (now (plane .entry)) p 0) (λ p. getD (now (plane .exit)) p 0) ⌝ }
 {
     let w = sh.w;
@@ -80,22 +80,23 @@ fn encode_plane(plane: &mut [u8], sh: Shape)
     };
     line::solve(
         plane,
+        reduction,
         run,
-        line::erasures_at((l2 - 2) as u8, (l2 - 1) as u8),
+        line::erasures_at(reduction, (l2 - 2) as u8, (l2 - 1) as u8),
     );
-    complete_rows(plane, sh);
+    complete_rows(plane, reduction, sh);
 }
 
 // The parity of axis 1 on every row of a plane.
-fn complete_rows(plane: &mut [u8], sh: Shape)
-    requires { ⌜ Valid sh × (length (now plane) ≡ planeBytes sh) ⌝ }
+fn complete_rows(plane: &mut [u8], reduction: u8, sh: Shape)
+    requires { ⌜ Valid sh × (length (now plane) ≡ planeBytes sh) × Primitive reduction ⌝ }
     ensures { λ r. ⌜ RowsCompleted reduction (sh .l1) (sh .w) (sh .l2) (now (plane .entry)) (now (plane .exit)) ⌝ }
 {
     let w = sh.w;
     let l1 = sh.l1;
     let row = l1 * w;
     let rows = sh.l2;
-    let e = line::erasures_at((l1 - 2) as u8, (l1 - 1) as u8);
+    let e = line::erasures_at(reduction, (l1 - 2) as u8, (l1 - 1) as u8);
     let mut b = 0;
     while b < rows {
         let run = Run {
@@ -104,7 +105,7 @@ fn complete_rows(plane: &mut [u8], sh: Shape)
             len: l1,
             width: w,
         };
-        line::solve(plane, run, e);
+        line::solve(plane, reduction, run, e);
         b += 1;
     }
 }

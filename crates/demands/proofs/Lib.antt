@@ -1,13 +1,16 @@
--- Why demand 3 holds.
--- Sent: the cells in a list of packets, and how many of them repeat an earlier one.
+-- Why the demands hold.
+-- Numbers: the numbers by which each call's checks fail.
+mod Numbers
+pub mod Demand1
+pub mod Demand2
+-- Writing: what stands in the writer's output, and that every file that fits is taken.
+pub mod Writing
+-- Sent: the cells that packets name, and the repeats among them.
 mod Sent
--- Job: what a job pack that the writer takes has.
-mod Job
--- Air: the packets of an air pack as the receiver reads them.
-mod Air
--- DataString: a data string holds one file.
-mod DataString
--- Demand3: the theorem.
+-- Heard: a list of packets as the receiver reads them.
+mod Heard
 pub mod Demand3
--- Corollaries: few lost cells, and no packets.
+-- Corollaries: few lost cells come back.
 pub mod Corollaries
+-- Wrong: the wrong programs.
+pub mod Wrong

@@ -2,58 +2,36 @@
 -- line of known cells is not right: a filling would be the same there, and right.
 use mathlib.Core.Path.{_≡_, refl, sym, ap, subst, _∙_}
 use mathlib.Core.Bool.{Bool, true, false, not, false≢true, Bool·beq}
-use mathlib.Core.List.{List, [], _∷_}
-use Prim.Native.Nat.{ℕ, zero, suc, _+_, _*_, _<_}
+use mathlib.Core.List.{List, []}
+use Prim.Native.Nat.{ℕ, _+_, _*_, _<_}
 use native.Mathlib.Omega.{arith}
-use lib.Dec.{eqb, ltb}
-use lib.ListN.{length, getD}
-use borrow.Author.Tests.{eqb-true, eq-eqb, ltb-true, not-true}
+use lib.Dec.{eqb}
+use lib.ListN.{length}
+use borrow.Author.Tests.{eqb-true, eq-eqb, not-true}
+use Rattle.answer.specs.Values.{Value, gives, refused, refused-at}
 use Rattle.field.specs.Field.{reduction}
 use Rattle.line.specs.Line.{Codeword}
 use Rattle.line.proofs.Codeword.{codeword-cong}
 use Rattle.stopping.specs.Stopping.{number, onLine, Largest}
 use Rattle.stopping.proofs.Number.{number-cong}
-use Rattle.stopping.proofs.Stopping.{largest-unique, largest-cong, largest-family, onLine-mono, onLine-zero}
-use Rattle.stopping.proofs.Cube.{CubeLine}
-use Rattle.stopping.proofs.Peeling.{has, listed, has-listed, largest}
-use Rattle.stopping.proofs.CubeLines.{cubeLines, cube-largest}
-use Rattle.cube.specs.declared.Shape.{Shape}
-use Rattle.cube.specs.declared.Fault.the-variants.{Contradiction}
-use Rattle.cube.specs.declared.Refusal.the-variants.{Plain}
-use Rattle.cube.specs.Shapes.{both, cells, cell, measured, IsLine}
+use Rattle.stopping.proofs.Stopping.{largest-unique, largest-cong, onLine-mono, onLine-zero}
+use Rattle.stopping.proofs.Cube.{cube-fits}
+use Rattle.stopping.proofs.Peeling.{has, listed, has-listed}
+use Rattle.stopping.proofs.CubeLines.{cubeLargest, cube-largest}
+use Rattle.shape.specs.declared.Shape.{Shape}
+use Rattle.shape.specs.Shapes.{both, cells, IsLine}
+use Rattle.shape.specs.Flags.{missing, flagsValid}
+use Rattle.shape.proofs.Valid.{both-parts}
+use Rattle.shape.proofs.Geometry.{line-cell-lt}
 use Rattle.cube.specs.Cube.{layer, layerLine}
-use Rattle.cube.proofs.Valid.{both-parts}
-use Rattle.cube.proofs.Geometry.{line-cell-lt}
-use Rattle.fill.specs.declared.FillAnswer.the-variants.{Left, Impossible}
-use Rattle.cube.specs.Flags.{missing, flagsValid}
-use Rattle.fill.specs.Fill.{flagsChecked, Filling, FillOutcome}
-use Rattle.examples.proofs.Tests.{implies, implies-sound, implies-true, same, same-sound, done?, done?-sound, all₂, all₂-sound, allLines, allLines-sound, allLines-true, line?, line?-sound, line?-true}
+use Rattle.fill.specs.Fill.{CellsLeft, left, flagsChecked, Filling, FillOutcome, fill-done, fill-contradiction}
+use Rattle.examples.proofs.Tests.{implies, implies-sound, implies-true, same, same-sound, passes?, passes?-sound, all₂, all₂-sound, allLines, allLines-sound, allLines-true, bytes?, bytes?-sound, line?, line?-sound, line?-true}
 
 -- ---- the largest stopping set
 
-cube-line-is : (sh : Shape) (first stride len : ℕ) → CubeLine (sh .l1) (sh .l2) (sh .l3) first stride len → IsLine sh first stride len
-unfolding cell
-cube-line-is sh _ _ _ (CubeLine.axis1 b c p q) = IsLine.axis1 b c p q
-cube-line-is sh _ _ _ (CubeLine.axis2 a c p q) = IsLine.axis2 a c p q
-cube-line-is sh _ _ _ (CubeLine.axis3 a b p q) = IsLine.axis3 a b p q
-
-is-cube-line : (sh : Shape) (first stride len : ℕ) → IsLine sh first stride len → CubeLine (sh .l1) (sh .l2) (sh .l3) first stride len
-unfolding cell
-is-cube-line sh _ _ _ (IsLine.axis1 b c p q) = CubeLine.axis1 b c p q
-is-cube-line sh _ _ _ (IsLine.axis2 a c p q) = CubeLine.axis2 a c p q
-is-cube-line sh _ _ _ (IsLine.axis3 a b p q) = CubeLine.axis3 a b p q
-
--- what is left of the missing cells M after peeling
-unfoldable pub peeledOf : Shape → (ℕ → Bool) → List Bool
-peeledOf sh M = largest (cells sh) (cubeLines (sh .l1) (sh .l2) (sh .l3)) M
-
-peeledOf-largest : (sh : Shape) (M : ℕ → Bool) → Largest (cells sh) (IsLine sh) M (has (peeledOf sh M))
-unfolding peeledOf cells
-peeledOf-largest sh M = largest-family (cube-line-is sh) (is-cube-line sh) (cube-largest (sh .l1) (sh .l2) (sh .l3) M)
-
 -- K is the largest stopping set among the missing cells M
 unfoldable pub largest? : Shape → (M K : ℕ → Bool) → Bool
-largest? sh M K = same Bool·beq (peeledOf sh M) (listed (cells sh) K)
+largest? sh M K = same Bool·beq (cubeLargest sh M) (listed (cells sh) K)
 
 beq-sound : (a b : Bool) → Bool·beq a b ≡ true → a ≡ b
 beq-sound true true h = refl
@@ -64,29 +42,19 @@ beq-sound false false h = refl
 largest?-sound : (sh : Shape) (M K : ℕ → Bool) → largest? sh M K ≡ true → Largest (cells sh) (IsLine sh) M K
 unfolding largest?
 largest?-sound sh M K h =
-    largest-cong (λ f s n l i m. line-cell-lt sh f s n i l m)
-    (λ n l. ap (λ (R : List Bool). has R n) (same-sound Bool·beq beq-sound _ _ h) ∙ has-listed (cells sh) K n l) (peeledOf-largest sh M)
+    largest-cong (cube-fits sh)
+    (λ n l. ap (λ (R : List Bool). has R n) (same-sound Bool·beq beq-sound _ _ h) ∙ has-listed (cells sh) K n l) (cube-largest sh M)
 
 -- so many cells are left
 unfoldable pub leaves? : Shape → List ℕ → ℕ → Bool
-leaves? sh fs left = eqb (number (has (peeledOf sh (missing fs))) (cells sh)) left
+leaves? sh fs size = eqb (number (has (cubeLargest sh (missing fs))) (cells sh)) size
 
-pub leaves?-sound : (sh : Shape) (fs : List ℕ) (left : ℕ) → leaves? sh fs left ≡ true
-    → (K : ℕ → Bool) → Largest (cells sh) (IsLine sh) (missing fs) K → number K (cells sh) ≡ left
+pub leaves?-sound : (sh : Shape) (fs : List ℕ) (size : ℕ) → leaves? sh fs size ≡ true
+    → (K : ℕ → Bool) → Largest (cells sh) (IsLine sh) (missing fs) K → number K (cells sh) ≡ size
 unfolding leaves?
-leaves?-sound sh fs left h K u = number-cong _ _ (cells sh) (largest-unique u (peeledOf-largest sh (missing fs))) ∙ eqb-true _ _ h
+leaves?-sound sh fs size h K u = number-cong _ _ (cells sh) (largest-unique u (cube-largest sh (missing fs))) ∙ eqb-true _ _ h
 
 -- ---- fillings
-
-unfoldable pub bytes? : List ℕ → Bool
-bytes? [] = true
-bytes? (b ∷ bs) = both (ltb b 256) (bytes? bs)
-
-bytes?-sound : (v : List ℕ) → bytes? v ≡ true → (p : ℕ) → getD v p 0 < 256
-unfolding bytes?
-bytes?-sound [] h p = omega arith
-bytes?-sound (b ∷ bs) h zero = ltb-true b 256 (both-parts (ltb b 256) (bytes? bs) h .0)
-bytes?-sound (b ∷ bs) h (suc p) = bytes?-sound bs (both-parts (ltb b 256) (bytes? bs) h .1) p
 
 -- v has the bytes of xs in the cells where M does not hold
 unfoldable pub kept? : Shape → List ℕ → (ℕ → Bool) → List ℕ → Bool
@@ -139,7 +107,7 @@ filling?-sound r sh xs M K v h =
       size = eqb-true _ _ size;
       bytes = bytes?-sound v bytes;
       known = kept?-sound sh xs M v kept;
-      left = zero?-sound sh K v zeros;
+      cleared = zero?-sound sh K v zeros;
       lines = rightOff?-sound r sh K v lines;
     }
 
@@ -166,42 +134,57 @@ known-right r sh xs M K v u filling = rightOff?-true r sh M xs lines
 -- ---- what `fill` answers and leaves
 
 unfoldable pub filled? : Shape → (xs fs xs′ fs′ : List ℕ) → ℕ → Bool
-filled? sh xs fs xs′ fs′ left =
-    both (done? (flagsChecked (measured sh) (length xs) fs))
+filled? sh xs fs xs′ fs′ count =
+    both (passes? (flagsChecked sh (length xs) fs))
     (both (eqb (length fs′) (length fs))
     (both (flagsValid fs′)
     (both (largest? sh (missing fs) (missing fs′))
-    (both (filling? reduction sh xs (missing fs) (missing fs′) xs′) (eqb (number (missing fs′) (cells sh)) left)))))
+    (both (filling? reduction sh xs (missing fs) (missing fs′) xs′) (eqb (number (missing fs′) (cells sh)) count)))))
 
-pub filled?-sound : (sh : Shape) (xs fs xs′ fs′ : List ℕ) (left : ℕ) → filled? sh xs fs xs′ fs′ left ≡ true → FillOutcome sh xs fs xs′ fs′ (Left left)
+filled?-sound : (sh : Shape) (xs fs xs′ fs′ : List ℕ) (count : ℕ) → filled? sh xs fs xs′ fs′ count ≡ true
+    → FillOutcome reduction sh xs fs xs′ fs′ (gives (left count))
 unfolding filled?
-filled?-sound sh xs fs xs′ fs′ left h =
-    let (checks, h1) = both-parts (done? (flagsChecked (measured sh) (length xs) fs)) _ h in
+filled?-sound sh xs fs xs′ fs′ count h =
+    let (checks, h1) = both-parts (passes? (flagsChecked sh (length xs) fs)) _ h in
     let (size, h2) = both-parts (eqb (length fs′) (length fs)) _ h1 in
     let (flags, h3) = both-parts (flagsValid fs′) _ h2 in
     let (stuck, h4) = both-parts (largest? sh (missing fs) (missing fs′)) _ h3 in
-    let (filling, count) = both-parts (filling? reduction sh xs (missing fs) (missing fs′) xs′) _ h4 in
-    subst (λ (n : ℕ). FillOutcome sh xs fs xs′ fs′ (Left n)) (eqb-true _ _ count)
-    (FillOutcome.filled (done?-sound _ checks) (eqb-true _ _ size) flags (largest?-sound sh _ _ stuck) (filling?-sound reduction sh xs _ _ xs′ filling))
+    let (filling, counted) = both-parts (filling? reduction sh xs (missing fs) (missing fs′) xs′) _ h4 in
+    subst (λ (n : ℕ). FillOutcome reduction sh xs fs xs′ fs′ (gives (left n))) (eqb-true _ _ counted)
+    (fill-done (passes?-sound _ checks) (eqb-true _ _ size) flags (largest?-sound sh _ _ stuck) (filling?-sound reduction sh xs _ _ xs′ filling))
 
 unfoldable pub contradicts? : Shape → (xs fs xs′ fs′ : List ℕ) → Bool
 contradicts? sh xs fs xs′ fs′ =
-    both (done? (flagsChecked (measured sh) (length xs) fs))
+    both (passes? (flagsChecked sh (length xs) fs))
     (both (not (rightOff? reduction sh (missing fs) xs))
     (both (eqb (length xs′) (length xs))
     (both (kept? sh xs (missing fs) xs′) (both (zero? sh (missing fs) xs′) (same eqb fs′ fs)))))
 
-pub contradicts?-sound : (sh : Shape) (xs fs xs′ fs′ : List ℕ) → contradicts? sh xs fs xs′ fs′ ≡ true
-    → FillOutcome sh xs fs xs′ fs′ (Impossible (Plain Contradiction))
+contradicts?-sound : (sh : Shape) (xs fs xs′ fs′ : List ℕ) → contradicts? sh xs fs xs′ fs′ ≡ true
+    → FillOutcome reduction sh xs fs xs′ fs′ (refused 13)
 unfolding contradicts?
 contradicts?-sound sh xs fs xs′ fs′ h =
     let M : ℕ → Bool = missing fs in
-    let (checks, h1) = both-parts (done? (flagsChecked (measured sh) (length xs) fs)) _ h in
-    let (wrong, h2) = both-parts (not (rightOff? reduction sh M xs)) _ h1 in
+    let (checks, h1) = both-parts (passes? (flagsChecked sh (length xs) fs)) _ h in
+    let (bad, h2) = both-parts (not (rightOff? reduction sh M xs)) _ h1 in
     let (size, h3) = both-parts (eqb (length xs′) (length xs)) _ h2 in
     let (kept, h4) = both-parts (kept? sh xs M xs′) _ h3 in
     let (zeros, flags) = both-parts (zero? sh M xs′) _ h4 in
-    FillOutcome.contradiction (done?-sound _ checks) (has (peeledOf sh M)) (peeledOf-largest sh M)
-    (λ v filling. false≢true (sym (not-true _ wrong) ∙ known-right reduction sh xs M _ v (peeledOf-largest sh M) filling))
+    fill-contradiction (passes?-sound _ checks) (has (cubeLargest sh M)) (cube-largest sh M)
+    (λ v filling. false≢true (sym (not-true _ bad) ∙ known-right reduction sh xs M _ v (cube-largest sh M) filling))
     (record { size = eqb-true _ _ size; known = kept?-sound sh xs M xs′ kept; missing = zero?-sound sh M xs′ zeros })
     (same-sound eqb eqb-true fs′ fs flags)
+
+unfoldable pub fills? : Shape → (xs fs xs′ fs′ : List ℕ) → Value CellsLeft → Bool
+fills? sh xs fs xs′ fs′ (gives (left n)) = filled? sh xs fs xs′ fs′ n
+fills? sh xs fs xs′ fs′ (refused n) = both (eqb n 13) (contradicts? sh xs fs xs′ fs′)
+fills? sh xs fs xs′ fs′ (refused-at n i) = false
+
+pub fills?-sound : (sh : Shape) (xs fs xs′ fs′ : List ℕ) (value : Value CellsLeft) → fills? sh xs fs xs′ fs′ value ≡ true
+    → FillOutcome reduction sh xs fs xs′ fs′ value
+unfolding fills?
+fills?-sound sh xs fs xs′ fs′ (gives (left n)) h = filled?-sound sh xs fs xs′ fs′ n h
+fills?-sound sh xs fs xs′ fs′ (refused n) h =
+    let (number, bad) = both-parts (eqb n 13) _ h in
+    rw (eqb-true n 13 number) (contradicts?-sound sh xs fs xs′ fs′ bad)
+fills?-sound sh xs fs xs′ fs′ (refused-at n i) h = absurd (false≢true h)

@@ -6,43 +6,41 @@ use mathlib.Core.List.{List, [], _∷_}
 use lib.Dec.{eqb}
 use lib.ListN.{length, getD}
 use borrow.Author.Tests.{eqb-true}
+use Rattle.answer.specs.Values.{check, andThen}
 use Rattle.field.specs.Field.{add, reduction, xtime, mulBits, mul, pow}
-use Rattle.line.specs.Line.{pick, syndrome0, syndrome1, corrected}
+use Rattle.line.specs.Line.{pick, syndrome0, syndrome1, errorPlace, corrected}
+use Rattle.shape.specs.Shapes.{cells, capacity, both, within, lengthsFit, sizes, shapeChecked, cell}
+use Rattle.shape.specs.Flags.{missing, noneMissing, flagsValid}
+use Rattle.shape.proofs.Valid.{both-parts}
 use Rattle.stopping.specs.Stopping.{number, onLine}
 use Rattle.stopping.proofs.Peeling.{has, listed, clear, few, peels, peelLine, pass, stable, peeled, largest}
-use Rattle.stopping.proofs.CubeLines.{table, grid, lines1, lines2, lines3, cubeLines}
-use Rattle.cube.specs.Shapes.{cells, capacity, both, within, lengthsFit, sizes, measured, cell, strideOf, lengthOf, linesOf, firstOf}
+use Rattle.stopping.proofs.CubeLines.{table, grid, lines1, lines2, lines3, cubeLines, cubeLargest}
 use Rattle.cube.specs.Cube.{layer, layerLine}
-use Rattle.cube.specs.Flags.{missing, noneMissing, flagsValid}
-use Rattle.cube.proofs.Valid.{both-parts}
+use Rattle.cube.specs.Calls.{slicesChecked}
 use Rattle.fill.specs.Fill.{flagsChecked}
-use Rattle.mend.specs.Mend.{correctChecked, flagsChecked as correctFlagsChecked}
-use Rattle.examples.specs.Examples.{Example, product, right, encoded, filled, leaves, contradicts, mended, no-place, Holds, Each, smallest, planes, made, wider, diagonal, diagonals, examples}
-use Rattle.examples.proofs.Tests.{implies, same, done?, all, all₂, allLines, codeword?, codeword?-sound, line?, codeCube?, codeCube?-sound, holdsData?, holdsData?-sound}
-use Rattle.examples.proofs.Filling.{peeledOf, largest?, leaves?, leaves?-sound, bytes?, kept?, zero?, rightOff?, filling?, filled?, filled?-sound, contradicts?, contradicts?-sound}
-use Rattle.examples.proofs.Mending.{lineNumber, corrects?, pass?, mended?, mended?-sound, no-place?, no-place?-sound}
+use Rattle.mend.specs.Mend.{mendChecked, wholeChecked}
+use Rattle.examples.specs.Examples.{Example, product, right, encodes, fills, leaves, mends, no-place, Holds, Each, smallest, planes, made, wider, diagonal, diagonals, lastKnown, lastKnownFlags, examples}
+use Rattle.examples.proofs.Tests.{implies, same, passes?, all, all₂, axisLines, allLines, bytes?, codeword?, codeword?-sound, line?, codeCube?, holdsData?, encodes?, encodes?-sound}
+use Rattle.examples.proofs.Filling.{largest?, leaves?, leaves?-sound, kept?, zero?, rightOff?, filling?, filled?, contradicts?, fills?, fills?-sound}
+use Rattle.examples.proofs.Mending.{corrects?, pass?, mended?, mends?, mends?-sound, no-place?, no-place?-sound}
 
 unfoldable pub holds? : Example → Bool
 holds? (product a b c) = eqb (mul reduction a b) c
 holds? (right cs) = codeword? reduction (λ i. getD cs i 0) (length cs)
-holds? (encoded sh ds xs) = both (codeCube? reduction sh xs) (holdsData? sh xs ds)
-holds? (filled sh xs fs xs′ fs′ left) = filled? sh xs fs xs′ fs′ left
-holds? (leaves sh fs left) = leaves? sh fs left
-holds? (contradicts sh xs fs xs′ fs′) = contradicts? sh xs fs xs′ fs′
-holds? (mended sh xs fs before after) = mended? sh xs fs before after
+holds? (encodes sh ds before after value) = encodes? sh ds before after value
+holds? (fills sh xs fs xs′ fs′ value) = fills? sh xs fs xs′ fs′ value
+holds? (leaves sh fs size) = leaves? sh fs size
+holds? (mends sh xs fs before after value) = mends? sh xs fs before after value
 holds? (no-place v0 v1 n j) = no-place? v0 v1 n j
 
 holds?-sound : (e : Example) → holds? e ≡ true → Holds e
 unfolding holds? Holds
 holds?-sound (product a b c) h = eqb-true _ _ h
 holds?-sound (right cs) h = codeword?-sound reduction _ (length cs) h
-holds?-sound (encoded sh ds xs) h =
-    let (code, holds) = both-parts (codeCube? reduction sh xs) _ h in
-    (codeCube?-sound reduction sh xs code, holdsData?-sound sh xs ds holds)
-holds?-sound (filled sh xs fs xs′ fs′ left) h = filled?-sound sh xs fs xs′ fs′ left h
-holds?-sound (leaves sh fs left) h = leaves?-sound sh fs left h
-holds?-sound (contradicts sh xs fs xs′ fs′) h = contradicts?-sound sh xs fs xs′ fs′ h
-holds?-sound (mended sh xs fs before after) h = mended?-sound sh xs fs before after h
+holds?-sound (encodes sh ds before after value) h = encodes?-sound sh ds before after value h
+holds?-sound (fills sh xs fs xs′ fs′ value) h = fills?-sound sh xs fs xs′ fs′ value h
+holds?-sound (leaves sh fs size) h = leaves?-sound sh fs size h
+holds?-sound (mends sh xs fs before after value) h = mends?-sound sh xs fs before after value h
 holds?-sound (no-place v0 v1 n j) h = no-place?-sound v0 v1 n j h
 
 unfoldable pub each? : List Example → Bool
@@ -58,12 +56,13 @@ each?-sound (e ∷ es) h =
 
 -- the test of the whole list computes; it opens the list, then what encoding, filling and mending compute by
 examples-pass : each? examples ≡ true
-unfolding examples smallest planes made wider diagonal diagonals each? holds?
-    add reduction xtime mulBits mul pow syndrome0 syndrome1 cells capacity cell layer layerLine both all all₂ allLines codeword? line? codeCube? holdsData?
-    within lengthsFit sizes measured missing flagsValid flagsChecked number onLine implies same done?
-    has listed clear few peels peelLine pass stable peeled largest table grid lines1 lines2 lines3 cubeLines peeledOf largest? leaves?
-    bytes? kept? zero? rightOff? filling? filled? contradicts?
-    pick corrected strideOf lengthOf linesOf firstOf noneMissing correctFlagsChecked correctChecked lineNumber corrects? pass? mended? no-place?
+unfolding examples smallest planes made wider diagonal diagonals lastKnown lastKnownFlags each? holds?
+    add reduction xtime mulBits mul pow syndrome0 syndrome1 cells capacity cell layer layerLine both all all₂ axisLines allLines
+    bytes? codeword? line? codeCube? holdsData? encodes? slicesChecked
+    within lengthsFit sizes shapeChecked check andThen missing flagsValid flagsChecked number onLine implies same passes?
+    has listed clear few peels peelLine pass stable peeled largest table grid lines1 lines2 lines3 cubeLines cubeLargest largest? leaves?
+    kept? zero? rightOff? filling? filled? contradicts? fills?
+    pick errorPlace corrected noneMissing wholeChecked mendChecked corrects? pass? mended? mends? no-place?
 examples-pass = refl
 
 pub examples-hold : Each Holds examples

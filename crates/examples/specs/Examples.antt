@@ -4,35 +4,30 @@ use mathlib.Core.Bool.{Bool}
 use mathlib.Core.List.{List, [], _∷_, _++_}
 use Prim.Native.Nat.{ℕ, _<_}
 use lib.ListN.{length, getD, set, replicate}
+use Rattle.answer.specs.Values.{Value, gives, refused}
 use Rattle.field.specs.Field.{reduction, mul, pow}
 use Rattle.line.specs.Line.{syndrome0, syndrome1, Codeword, ErrorAt, corrected}
+use Rattle.shape.specs.declared.Shape.{Shape}
+use Rattle.shape.specs.Shapes.{cells, cell, IsLine}
+use Rattle.shape.specs.Flags.{missing}
 use Rattle.stopping.specs.Stopping.{number, Largest}
-use Rattle.cube.specs.declared.Shape.{Shape}
-use Rattle.cube.specs.declared.Fault.the-variants.{Contradiction}
-use Rattle.cube.specs.declared.Refusal.the-variants.{Plain}
-use Rattle.cube.specs.declared.Answer.the-variants.{Done}
-use Rattle.cube.specs.Shapes.{cells, cell, IsLine}
-use Rattle.cube.specs.Cube.{CodeCube, HoldsData}
-use Rattle.fill.specs.declared.FillAnswer.the-variants.{Left, Impossible}
-use Rattle.cube.specs.Flags.{missing}
-use Rattle.fill.specs.Fill.{FillOutcome}
-use Rattle.mend.specs.Mend.{CorrectOutcome}
+use Rattle.cube.specs.Calls.{EncodeOutcome}
+use Rattle.fill.specs.Fill.{CellsLeft, left, FillOutcome}
+use Rattle.mend.specs.Mend.{MendOutcome}
 
 pub data Example : Type 0 where
   -- the product of two elements
   product : (a b c : ℕ) → Example
   -- a line that is right
   right : List ℕ → Example
-  -- the code cube of a data string
-  encoded : Shape → (ds xs : List ℕ) → Example
-  -- a cube and its flags, both after filling, and how many cells are left
-  filled : Shape → (xs fs xs′ fs′ : List ℕ) → (left : ℕ) → Example
+  -- a data string, the cube before and after encoding, and the answer
+  encodes : Shape → (ds before after : List ℕ) → Value Unit → Example
+  -- a cube and its flags, both after filling, and the answer
+  fills : Shape → (xs fs xs′ fs′ : List ℕ) → Value CellsLeft → Example
   -- the size of K, by the flags alone
-  leaves : Shape → (fs : List ℕ) → (left : ℕ) → Example
-  -- a cube and its flags that have no filling (13), and both afterwards
-  contradicts : Shape → (xs fs xs′ fs′ : List ℕ) → Example
-  -- a cube, its flags, and the second cube before and after mending
-  mended : Shape → (xs fs before after : List ℕ) → Example
+  leaves : Shape → (fs : List ℕ) → (size : ℕ) → Example
+  -- a cube, its flags, the second cube before and after mending, and the answer
+  mends : Shape → (xs fs before after : List ℕ) → Value Unit → Example
   -- the sums of a line of length n, and the j that is no place of it
   no-place : (v0 v1 n j : ℕ) → Example
 
@@ -40,17 +35,21 @@ pub data Example : Type 0 where
 unfoldable pub Holds : Example → Type 0
 Holds (product a b c) = mul reduction a b ≡ c
 Holds (right cs) = Codeword reduction (λ i. getD cs i 0) (length cs)
-Holds (encoded sh ds xs) = CodeCube reduction sh xs × HoldsData sh xs ds
-Holds (filled sh xs fs xs′ fs′ left) = FillOutcome sh xs fs xs′ fs′ (Left left)
-Holds (leaves sh fs left) =
-    (K : ℕ → Bool) → Largest (cells sh) (IsLine sh) (missing fs) K → number K (cells sh) ≡ left
-Holds (contradicts sh xs fs xs′ fs′) = FillOutcome sh xs fs xs′ fs′ (Impossible (Plain Contradiction))
-Holds (mended sh xs fs before after) = CorrectOutcome sh xs fs before after Done
+Holds (encodes sh ds before after value) = EncodeOutcome reduction sh ds before after value
+Holds (fills sh xs fs xs′ fs′ value) = FillOutcome reduction sh xs fs xs′ fs′ value
+Holds (leaves sh fs size) =
+    (K : ℕ → Bool) → Largest (cells sh) (IsLine sh) (missing fs) K → number K (cells sh) ≡ size
+Holds (mends sh xs fs before after value) = MendOutcome reduction sh xs fs before after value
 Holds (no-place v0 v1 n j) =
     (v1 ≡ mul reduction (pow reduction j) v0)
     × ((i : ℕ) → ErrorAt reduction v0 v1 n i → ⊥)
     × ((c : ℕ → ℕ) → syndrome0 c n ≡ v0 → syndrome1 reduction c n ≡ v1 →
     (i : ℕ) → i < n → corrected reduction n c i ≡ c i)
+
+-- every example of a list has the property P
+unfoldable pub Each : (Example → Type 0) → List Example → Type 0
+Each P [] = Unit
+Each P (e ∷ es) = P e × Each P es
 
 -- "3 by 3 by 3, W 1"
 unfoldable pub smallest : Shape
@@ -83,7 +82,14 @@ diagonal x y =
 unfoldable pub diagonals : ℕ → ℕ → List ℕ
 diagonals x y = diagonal x y ++ diagonal x y ++ diagonal x y
 
--- The list, in document 01's order. The bytes of missing cells are FFh: they are not read.
+-- "only (2,2,2) = 01h known", and its flags. The bytes of missing cells are FFh: they are not read.
+unfoldable pub lastKnown : List ℕ
+lastKnown = made 2 2 2 0x01 (replicate 27 0xFF)
+
+unfoldable pub lastKnownFlags : List ℕ
+lastKnownFlags = made 2 2 2 0 (replicate 27 1)
+
+-- The list, in document 01's order.
 unfoldable pub examples : List Example
 examples =
     -- "02h × 80h = C3h."
@@ -94,24 +100,19 @@ examples =
     right (0x02 ∷ 0x03 ∷ 0x01 ∷ []) ∷
     right (0x01 ∷ 0xE0 ∷ 0xE1 ∷ []) ∷
     -- "3 by 3 by 3, W 1, data 08h: planes …"
-    encoded smallest (0x08 ∷ []) planes ∷
+    encodes smallest (0x08 ∷ []) (replicate 27 0xFF) planes (gives tt) ∷
     -- "That cube, only (2,2,2) = 01h known: all filled, left 0."
-    filled smallest (made 2 2 2 0x01 (replicate 27 0xFF)) (made 2 2 2 0 (replicate 27 1)) planes (replicate 27 0) 0 ∷
+    fills smallest lastKnown lastKnownFlags planes (replicate 27 0) (gives (left 0)) ∷
     -- "Nothing known: left 27."
-    filled smallest (replicate 27 0xFF) (replicate 27 1) (replicate 27 0x00) (replicate 27 1) 27 ∷
+    fills smallest (replicate 27 0xFF) (replicate 27 1) (replicate 27 0x00) (replicate 27 1) (gives (left 27)) ∷
     -- "4 by 4 by 3, missing where a ≠ b: left 36": of K alone; and of filling, the known cells being those of the code cube 00h
     leaves wider (diagonals 0 1) 36 ∷
-    filled wider (diagonals 0x00 0xFF) (diagonals 0 1) (replicate 48 0x00) (diagonals 0 1) 36 ∷
+    fills wider (diagonals 0x00 0xFF) (diagonals 0 1) (replicate 48 0x00) (diagonals 0 1) (gives (left 36)) ∷
     -- "That first cube with (0,0,0) missing and (2,2,2) made 00h: 13."
-    contradicts smallest
+    fills smallest
     (made 0 0 0 0xFF (made 2 2 2 0x00 planes)) (made 0 0 0 1 (replicate 27 0))
-    (made 0 0 0 0x00 (made 2 2 2 0x00 planes)) (made 0 0 0 1 (replicate 27 0)) ∷
+    (made 0 0 0 0x00 (made 2 2 2 0x00 planes)) (made 0 0 0 1 (replicate 27 0)) (refused 13) ∷
     -- "The first cube again as listed, but (1,1,1) made 00h, none missing: mending restores 0Fh."
-    mended smallest (made 1 1 1 0x00 planes) (replicate 27 0) (replicate 27 0xFF) planes ∷
+    mends smallest (made 1 1 1 0x00 planes) (replicate 27 0) (replicate 27 0xFF) planes (gives tt) ∷
     -- "Length 3, sums 01h and 08h: j = 3, unmended."
     no-place 0x01 0x08 3 3 ∷ []
-
--- every example of a list has the property P
-unfoldable pub Each : (Example → Type 0) → List Example → Type 0
-Each P [] = Unit
-Each P (e ∷ es) = P e × Each P es

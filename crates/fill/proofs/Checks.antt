@@ -3,71 +3,85 @@ use mathlib.Core.Path.{_≡_, refl, ap, _∙_}
 use mathlib.Core.Bool.{Bool, true, false, cond}
 use mathlib.Core.List.{List}
 use mathlib.Core.Logic.{_≢_, _⊎_, ⊎-elim}
-use Prim.Native.Nat.{ℕ}
+use Prim.Native.Nat.{ℕ, _≤_}
 use native.Mathlib.Omega.{arith}
 use borrow.Author.Tests.{eqb-true, eq-eqb, ne-eqb}
 use lib.Dec.{eqb}
 use lib.ListN.{length}
-use Rattle.cube.specs.declared.Shape.{Shape}
-use Rattle.cube.specs.declared.Sizes.{Sizes}
-use Rattle.cube.specs.declared.Fault.the-variants.{SliceLength, FlagValue}
-use Rattle.cube.specs.declared.Refusal.{Refusal}
-use Rattle.cube.specs.declared.Refusal.the-variants.{Plain}
-use Rattle.cube.specs.declared.Measured.{Measured}
-use Rattle.cube.specs.declared.Measured.the-variants.{Fits, Misfit}
-use Rattle.cube.specs.declared.Answer.the-variants.{Done, Refused}
-use Rattle.cube.specs.Shapes.{both, cells, sizes, measured}
-use Rattle.cube.proofs.Valid.{both-parts, both-true, measured-fits}
-use Rattle.cube.specs.Flags.{flagsValid}
+use Rattle.answer.specs.declared.Fault.the-variants.{SliceLength, FlagValue}
+use Rattle.answer.specs.declared.Refusal.{Refusal}
+use Rattle.answer.specs.declared.Refusal.the-variants.{Plain}
+use Rattle.answer.specs.declared.Answer.the-variants.{Done, Refused}
+use Rattle.answer.specs.Refusals.{faultNumber}
+use Rattle.answer.specs.Values.{passes, fails, check, andThen, checked, refusal, answerValue}
+use Rattle.answer.proofs.Values.{check-passed, then-passed, then-refused, check-number, then-number, passes-number}
+use Rattle.shape.specs.declared.Shape.{Shape}
+use Rattle.shape.specs.declared.Sizes.{Sizes}
+use Rattle.shape.specs.declared.Measured.{Measured}
+use Rattle.shape.specs.declared.Measured.the-variants.{Refused as Misfit}
+use Rattle.shape.specs.Shapes.{both, cells, sizes, shapeChecked, measuredValue}
+use Rattle.shape.specs.Flags.{flagsValid}
+use Rattle.shape.proofs.Valid.{both-parts, both-true, shape-passed, shape-number, measure-refused}
 use Rattle.fill.specs.Fill.{flagsChecked}
-use Rattle.fill.specs.State.{Sized}
+use Rattle.fill.specs.Inner.Cells.{Sized}
 
--- ---- what `flagsChecked` answers
+-- ---- what the checks answer
 
-pub checked-misfit : (m : Measured) (f : Refusal) (n : ℕ) (fs : List ℕ) → m ≡ Misfit f → Refused f ≡ flagsChecked m n fs
-unfolding flagsChecked
-checked-misfit m f n fs e = rw e
+module _ (sh : Shape) (n : ℕ) (fs : List ℕ) where
+  pub checked-shape : (m : Measured) (f : Refusal) → measuredValue m ≡ checked (shapeChecked sh) → m ≡ Misfit f
+      → answerValue (Refused f) ≡ checked (flagsChecked sh n fs)
+  unfolding flagsChecked answerValue
+  checked-shape m f e p = then-refused (shapeChecked sh) _ f (measure-refused sh m f e p)
 
-pub checked-length : (m : Measured) (z : Sizes) (n : ℕ) (fs : List ℕ) → m ≡ Fits z → (n ≢ z .bytes) ⊎ (length fs ≢ z .cells)
-    → Refused (Plain SliceLength) ≡ flagsChecked m n fs
-unfolding flagsChecked both
-checked-length m z n fs e s =
-    rw e
-    (⊎-elim (λ ne. rw (ne-eqb n (z .bytes) ne))
-    (λ ne. rw (ne-eqb (length fs) (z .cells) ne) (by (eqb n (z .bytes)))) s)
-  where
-    by : (b : Bool) → Refused (Plain SliceLength) ≡ cond (cond b false false) (cond (flagsValid fs) Done (Refused (Plain FlagValue))) (Refused (Plain SliceLength))
-    by true = refl
-    by false = refl
+  module _ (z : Sizes) (fits : shapeChecked sh ≡ passes z) where
+    pub checked-length : (n ≢ z .bytes) ⊎ (length fs ≢ z .cells) → answerValue (Refused (Plain SliceLength)) ≡ checked (flagsChecked sh n fs)
+    unfolding flagsChecked andThen check checked answerValue refusal faultNumber both
+    checked-length s =
+        rw fits
+        (⊎-elim (λ ne. rw (ne-eqb n (z .bytes) ne))
+        (λ ne. rw (ne-eqb (length fs) (z .cells) ne) (by (eqb n (z .bytes)))) s)
+      where
+        by : (b : Bool) → answerValue (Refused (Plain SliceLength)) ≡ checked (cond (cond b false false) (cond (flagsValid fs) (passes tt) (fails 5)) (fails 4))
+        by true = refl
+        by false = refl
 
-pub checked-flags : (m : Measured) (z : Sizes) (n : ℕ) (fs : List ℕ) (b : Bool) → m ≡ Fits z → n ≡ z .bytes → length fs ≡ z .cells → flagsValid fs ≡ b
-    → cond b Done (Refused (Plain FlagValue)) ≡ flagsChecked m n fs
-unfolding flagsChecked
-checked-flags m z n fs b e p q v =
-    rw (e, both-true (eqb n (z .bytes)) (eqb (length fs) (z .cells)) (eq-eqb _ _ p) (eq-eqb _ _ q), v)
+    pub checked-flags : (b : Bool) → n ≡ z .bytes → length fs ≡ z .cells → flagsValid fs ≡ b
+        → answerValue (cond b Done (Refused (Plain FlagValue))) ≡ checked (flagsChecked sh n fs)
+    unfolding flagsChecked andThen check checked answerValue refusal faultNumber
+    checked-flags b p q v =
+        rw (fits, both-true (eqb n (z .bytes)) (eqb (length fs) (z .cells)) (eq-eqb _ _ p) (eq-eqb _ _ q), v) (by b)
+      where
+        by : (b : Bool) → answerValue (cond b Done (Refused (Plain FlagValue))) ≡ checked (cond b (passes tt) (fails 5))
+        by true = refl
+        by false = refl
 
 -- ---- what a call that passes has
 
-done-parts : (a b : Bool) → cond a (cond b Done (Refused (Plain FlagValue))) (Refused (Plain SliceLength)) ≡ Done → (a ≡ true) × (b ≡ true)
-done-parts true true e = (refl, refl)
-done-parts true false e = let n : _≡_ {A = ℕ} 0 1 = cc in absurd (omega arith)
-done-parts false b e = let n : _≡_ {A = ℕ} 0 1 = cc in absurd (omega arith)
-
-checks-done : (m : Measured) (n : ℕ) (fs : List ℕ) → flagsChecked m n fs ≡ Done
-    → (z : Sizes) × (m ≡ Fits z) × (n ≡ z .bytes) × (length fs ≡ z .cells) × (flagsValid fs ≡ true)
+checks-passed : (sh : Shape) (n : ℕ) (fs : List ℕ) → flagsChecked sh n fs ≡ passes tt
+    → (z : Sizes) × (shapeChecked sh ≡ passes z) × (n ≡ z .bytes) × (length fs ≡ z .cells) × (flagsValid fs ≡ true)
 unfolding flagsChecked
-checks-done (Misfit f) n fs e = let n : _≡_ {A = ℕ} 0 1 = cc in absurd (omega arith)
-checks-done (Fits z) n fs e =
-    let (a, b) = done-parts (both (eqb n (z .bytes)) (eqb (length fs) (z .cells))) (flagsValid fs) e in
-    let (p, q) = both-parts (eqb n (z .bytes)) (eqb (length fs) (z .cells)) a in
-    (z, refl, eqb-true n (z .bytes) p, eqb-true (length fs) (z .cells) q, b)
+checks-passed sh n fs e =
+    let (z, fits, rest) = then-passed (shapeChecked sh) _ tt e in
+    let (lengths, last) = check-passed (both (eqb n (z .bytes)) (eqb (length fs) (z .cells))) 4 _ tt rest in
+    let (p, q) = both-parts (eqb n (z .bytes)) (eqb (length fs) (z .cells)) lengths in
+    (z, fits, eqb-true n (z .bytes) p, eqb-true (length fs) (z .cells) q, check-passed (flagsValid fs) 5 (passes tt) tt last .0)
 
-pub done-sized : (sh : Shape) (xs fs : List ℕ) → flagsChecked (measured sh) (length xs) fs ≡ Done → Sized sh xs fs
+pub done-sized : (sh : Shape) (xs fs : List ℕ) → flagsChecked sh (length xs) fs ≡ passes tt → Sized sh xs fs
 unfolding sizes
 done-sized sh xs fs e =
-    let (z, fits, p, q, v) = checks-done (measured sh) (length xs) fs e in
-    let (valid, same) = measured-fits sh z fits in
+    let (z, fits, p, q, v) = checks-passed sh (length xs) fs e in
+    let (valid, same) = shape-passed sh z fits in
     record { valid = valid; bytes = p ∙ ap (λ (y : Sizes). y .bytes) same; flags = q ∙ ap (λ (y : Sizes). y .cells) same }
 
-pub done-flags : (sh : Shape) (n : ℕ) (fs : List ℕ) → flagsChecked (measured sh) n fs ≡ Done → flagsValid fs ≡ true
-done-flags sh n fs e = let (z, fits, p, q, v) = checks-done (measured sh) n fs e in v
+pub done-flags : (sh : Shape) (n : ℕ) (fs : List ℕ) → flagsChecked sh n fs ≡ passes tt → flagsValid fs ≡ true
+done-flags sh n fs e = let (z, fits, p, q, v) = checks-passed sh n fs e in v
+
+-- the numbers of the checks
+pub checks-number : (sh : Shape) (k : ℕ) (fs : List ℕ) (n : ℕ) → flagsChecked sh k fs ≡ fails n → (1 ≤ n) × (n ≤ 5)
+unfolding flagsChecked
+checks-number sh k fs n =
+    then-number Low n (shapeChecked sh) _ (λ e. let (low, high) = shape-number sh n e in (low, omega arith))
+    (λ z. check-number Low n _ 4 _ (omega arith) (check-number Low n _ 5 _ (omega arith) (passes-number Low n tt)))
+  where
+    Low : ℕ → Type 0
+    Low m = (1 ≤ m) × (m ≤ 5)

@@ -2,38 +2,19 @@
 use mathlib.Core.Path.{_≡_, refl, sym, ap, _∙_}
 use mathlib.Core.Bool.{Bool, true, false, true≢false}
 use mathlib.Core.List.{List}
-use mathlib.Core.Logic.{_≢_, _⊎_, inl, inr, ⊎-elim}
+use mathlib.Core.Logic.{_≢_, _⊎_, inl, inr}
 use Prim.Native.Nat.{ℕ, _+_, _*_, _≤_, _<_}
 use native.Mathlib.Nat.{suc-mul, mul-le-mul-right}
 use native.Mathlib.Decide.{ℕ-discrete, decLt}
 use native.Mathlib.Omega.{arith}
-use lib.ListN.{length, getD, set, length-set}
-use lib.Seq.{getD-set-same, getD-set-other}
-use Rattle.cube.specs.declared.Shape.{Shape}
-use Rattle.cube.specs.Shapes.{cells}
+use lib.ListN.{length, getD}
+use Rattle.span.specs.Span.{SetTo}
+use Rattle.span.proofs.Keeping.{kept-beside}
+use Rattle.shape.specs.declared.Shape.{Shape}
+use Rattle.shape.specs.Shapes.{cells}
 use Rattle.cube.specs.Cube.{layer}
 use Rattle.fill.specs.Fill.{Cleared}
-use Rattle.fill.specs.State.{Sized, Zeroed}
-
--- ---- bytes
-
-pub zeroed-none : (at : ℕ) (xs : List ℕ) → Zeroed at 0 xs xs
-zeroed-none at xs = record { size = refl; zero = λ p l m. absurd (omega arith); below = λ p l. refl; above = λ p l. refl }
-
-pub zeroed-more : (at t : ℕ) (xs ys : List ℕ) → Zeroed at t xs ys → at + t < length ys → Zeroed at (t + 1) xs (set ys (at + t) 0)
-zeroed-more at t xs ys z l =
-    record {
-      size = length-set ys (at + t) 0 ∙ z .size;
-      zero = λ p a b.
-          elim (ℕ-discrete p (at + t)) [
-            | yes e ↦ rw e (getD-set-same ys (at + t) 0 0 l)
-            | no ne ↦ getD-set-other ys (at + t) p 0 0 ne ∙ z .zero p a (omega arith)
-          ];
-      below = λ p a. getD-set-other ys (at + t) p 0 0 (omega arith) ∙ z .below p a;
-      above = λ p a. getD-set-other ys (at + t) p 0 0 (omega arith) ∙ z .above p (omega arith);
-    }
-
--- ---- cells
+use Rattle.fill.specs.Inner.Cells.{Sized}
 
 pub cell-end : (n m w : ℕ) → n < m → n * w + w ≤ m * w
 cell-end n m w l = omega (arith, suc-mul n w, mul-le-mul-right w l)
@@ -45,8 +26,8 @@ cells-apart n m w t ne l =
       | no b ↦ let a : m < n = omega arith in inr (omega (arith, cell-end m n w a))
     ]
 
-pub zeroed-cell : (n m w t : ℕ) (xs ys : List ℕ) → Zeroed (m * w) w xs ys → n ≢ m → t < w → getD ys (n * w + t) 0 ≡ getD xs (n * w + t) 0
-zeroed-cell n m w t xs ys z ne l = ⊎-elim (z .below (n * w + t)) (z .above (n * w + t)) (cells-apart n m w t ne l)
+pub set-cell : (n m w t : ℕ) (xs ys : List ℕ) → SetTo xs (m * w) w 0 ys → n ≢ m → t < w → getD ys (n * w + t) 0 ≡ getD xs (n * w + t) 0
+set-cell n m w t xs ys z ne l = kept-beside (z .kept) (n * w + t) (cells-apart n m w t ne l)
 
 pub cell-room : (sh : Shape) (xs fs : List ℕ) → Sized sh xs fs → (n : ℕ) → n < length fs → n * sh .w + sh .w ≤ length xs
 cell-room sh xs fs z n l =
@@ -75,17 +56,17 @@ module _ (w : ℕ) (M : ℕ → Bool) where
         later = λ m t l b. h .later m t l (omega arith);
       }
 
-  pub cleared-more : (n : ℕ) (xs ys zs : List ℕ) → ClearedTo w M n xs ys → M n ≡ true → Zeroed (n * w) w ys zs → ClearedTo w M (n + 1) xs zs
+  pub cleared-more : (n : ℕ) (xs ys zs : List ℕ) → ClearedTo w M n xs ys → M n ≡ true → SetTo ys (n * w) w 0 zs → ClearedTo w M (n + 1) xs zs
   cleared-more n xs ys zs h e z =
       record {
-        size = z .size ∙ h .size;
+        size = z .kept .size ∙ h .size;
         missing = λ m t l b f.
             elim (ℕ-discrete m n) [
-              | yes g ↦ rw g (z .zero (n * w + t) (omega arith) (omega arith))
-              | no ne ↦ zeroed-cell m n w t ys zs z ne b ∙ h .missing m t (omega arith) b f
+              | yes g ↦ rw g (z .bytes t b)
+              | no ne ↦ set-cell m n w t ys zs z ne b ∙ h .missing m t (omega arith) b f
             ];
-        known = λ m t l f. zeroed-cell m n w t ys zs z (λ g. true≢false (sym e ∙ sym (ap M g) ∙ f)) l ∙ h .known m t l f;
-        later = λ m t l b. zeroed-cell m n w t ys zs z (omega arith) l ∙ h .later m t l (omega arith);
+        known = λ m t l f. set-cell m n w t ys zs z (λ g. true≢false (sym e ∙ sym (ap M g) ∙ f)) l ∙ h .known m t l f;
+        later = λ m t l b. set-cell m n w t ys zs z (omega arith) l ∙ h .later m t l (omega arith);
       }
 
 pub cleared-all : (sh : Shape) (M : ℕ → Bool) (xs ys : List ℕ) → ClearedTo (sh .w) M (cells sh) xs ys → Cleared sh xs M ys

@@ -5,10 +5,10 @@ mod Clearing
 mod Marks
 -- Scanning: the missing cells of a line, place after place.
 mod Scanning
--- Lines: a line of the cube as a run of bytes, and the lines of an axis by number.
+-- Lines: a line of the cube as a run of bytes, and what holds of every line of an axis.
 mod Lines
--- Checks: the checks 1 to 5, by what each of them finds.
-mod Checks
+-- Checks: the checks 1 to 5, by what each of them finds, and their numbers.
+pub mod Checks
 -- Reaching: peeling as a relation between two states, and that a line filled is such a step.
 mod Reaching
 -- Outcome: what the steps of a call add up to.
@@ -17,3 +17,5 @@ mod Outcome
 pub mod Unique
 -- Recovery: a code cube with erasures comes back, and how many cells can be left.
 pub mod Recovery
+-- Theorems: what document 01 says of filling.
+pub mod Theorems

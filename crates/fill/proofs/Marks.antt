@@ -11,11 +11,11 @@ use borrow.Author.Tests.{not-true, leb-true, le-leb, eqb-true, eqb-false, eq-eqb
 use lib.Dec.{leb, eqb}
 use lib.ListN.{length, getD, set, length-set}
 use lib.Seq.{getD-set-same, getD-set-other}
-use Rattle.cube.proofs.Valid.{both-parts, both-true}
+use Rattle.shape.proofs.Valid.{both-parts, both-true}
 use Rattle.stopping.specs.Stopping.{number}
 use Rattle.stopping.proofs.Number.{number-in, number-out, number-cong, number-remove}
-use Rattle.cube.specs.Flags.{missing, flagsValid, noneMissing}
-use Rattle.fill.specs.State.{filled, Remarked}
+use Rattle.shape.specs.Flags.{missing, flagsValid, noneMissing}
+use Rattle.fill.specs.Inner.Cells.{filled, Remarked}
 
 -- ---- flags 0 and 1
 

@@ -1,6 +1,6 @@
 -- What the steps of a call add up to. Peeling ends at the largest stopping set K. If every line without a cell of K is right, the cube is the
 -- filling; if not, a filling would agree with the cube on each of these lines, and be right there.
-use mathlib.Core.Path.{_≡_, sym, ap, _∙_}
+use mathlib.Core.Path.{_≡_, refl, sym, ap, _∙_}
 use mathlib.Core.Bool.{true, false, true≢false}
 use mathlib.Core.List.{List}
 use mathlib.Core.Logic.{⊎-elim}
@@ -9,24 +9,31 @@ use native.Mathlib.Omega.{arith}
 use borrow.Author.Tests.{eqb-true, eq-eqb}
 use lib.ListN.{length, getD}
 use lib.Seq.{ext-getD}
-use Rattle.cube.specs.declared.Shape.{Shape}
-use Rattle.cube.specs.declared.Fault.the-variants.{Contradiction}
-use Rattle.cube.specs.declared.Refusal.the-variants.{Plain}
-use Rattle.cube.specs.declared.Answer.the-variants.{Done}
-use Rattle.cube.specs.Shapes.{cells, measured, IsLine}
+use Rattle.answer.specs.declared.Fault.the-variants.{Contradiction}
+use Rattle.answer.specs.declared.Refusal.{Refusal}
+use Rattle.answer.specs.declared.Refusal.the-variants.{Plain}
+use Rattle.answer.specs.declared.Answer.{Answer}
+use Rattle.answer.specs.declared.Answer.the-variants.{Refused}
+use Rattle.answer.specs.Refusals.{faultNumber}
+use Rattle.answer.specs.Values.{passes, checked, refusal, answerValue}
+use Rattle.answer.proofs.Values.{answer-failed}
+use Rattle.shape.specs.declared.Shape.{Shape}
+use Rattle.shape.specs.Shapes.{cells, IsLine}
 use Rattle.cube.specs.Cube.{layer, layerLine}
 use Rattle.line.proofs.Codeword.{codeword-cong}
-use Rattle.field.specs.Field.{reduction}
 use Rattle.stopping.specs.Stopping.{number, Largest}
 use Rattle.stopping.proofs.Number.{true-or-false}
 use Rattle.stopping.proofs.Stopping.{onLine-cong, onLine-zero, largest-cong, peel-end}
-use Rattle.fill.specs.declared.FillAnswer.the-variants.{Left, Impossible}
-use Rattle.cube.specs.Flags.{missing}
-use Rattle.fill.specs.Fill.{flagsChecked, Filling, Cleared, FillOutcome}
-use Rattle.fill.specs.State.{filled, Sized, Remarked, Right, AllRight, Stops, Agrees, Peeled}
+use Rattle.stopping.proofs.Cube.{cube-fits}
+use Rattle.fill.specs.declared.FillAnswer.the-variants.{Left, Refused as NotFilled}
+use Rattle.shape.specs.Flags.{missing}
+use Rattle.fill.specs.Fill.{CellsLeft, fillValue, flagsChecked, Filling, Cleared, FillOutcome, fill-refused, fill-done, fill-contradiction}
+use Rattle.fill.specs.Inner.Cells.{filled, Sized, Remarked}
+use Rattle.fill.specs.Inner.Peel.{Stops, Agrees, Peeled}
+use Rattle.fill.specs.Inner.Verify.{Right, AllRight}
 use Rattle.fill.proofs.Checks.{done-sized, done-flags}
 use Rattle.fill.proofs.Marks.{valid-flag, flags-valid, missing-one, not-missing, missing-cong}
-use Rattle.fill.proofs.Reaching.{reaches-missing, cube-fits}
+use Rattle.fill.proofs.Reaching.{reaches-missing}
 
 -- ---- flags at the end of a call
 
@@ -40,8 +47,17 @@ settled-missing gs hs r n l =
     ∙ sym (not-missing gs n (λ f. let g : _≡_ {A = ℕ} 3 1 = sym (eqb-true (getD gs n 0) 3 e) ∙ f in omega arith)))
     (λ (e : filled gs n ≡ false). missing-cong gs hs n (r .others n e)) (true-or-false (filled gs n))
 
-module _ (sh : Shape) (xs fs zs ys gs : List ℕ) (done : flagsChecked (measured sh) (length xs) fs ≡ Done)
-    (c : Cleared sh xs (missing fs) zs) (p : Peeled sh zs fs ys gs) where
+-- ---- refused by the checks
+
+pub fill-unfit : (r : ℕ) (sh : Shape) (xs fs : List ℕ) (answer : Answer) (f : Refusal)
+    → answerValue answer ≡ checked (flagsChecked sh (length xs) fs) → answer ≡ Refused f → FillOutcome r sh xs fs xs fs (fillValue (NotFilled f))
+unfolding fillValue
+fill-unfit r sh xs fs answer f e p =
+    let (n, failed, value) = answer-failed {B = CellsLeft} answer _ f e p in
+    rw value (fill-refused n failed refl refl)
+
+module _ (r : ℕ) (sh : Shape) (xs fs zs ys gs : List ℕ) (done : flagsChecked sh (length xs) fs ≡ passes tt)
+    (c : Cleared sh xs (missing fs) zs) (p : Peeled r sh zs fs ys gs) where
   sized : Sized sh xs fs
   sized = done-sized sh xs fs done
 
@@ -80,77 +96,79 @@ module _ (sh : Shape) (xs fs zs ys gs : List ℕ) (done : flagsChecked (measured
   peeled-left : (n w : ℕ) → n < cells sh → w < sh .w → missing gs n ≡ true → layer sh ys w n ≡ 0
   peeled-left n w l m e = p .reaches .left n w l m e ∙ c .missing n w l m (reaches-missing (p .reaches) n e)
 
-  pub right-filling : ((q : ℕ) → getD ys q 0 < 256) → AllRight sh ys gs → Filling reduction sh xs (missing fs) (missing gs) ys
+  pub right-filling : ((q : ℕ) → getD ys q 0 < 256) → AllRight r sh ys gs → Filling r sh xs (missing fs) (missing gs) ys
   unfolding AllRight Right
   right-filling bytes h =
-      record { size = p .reaches .size ∙ c .size; bytes = bytes; known = peeled-known; left = peeled-left; lines = h }
+      record { size = p .reaches .size ∙ c .size; bytes = bytes; known = peeled-known; cleared = peeled-left; lines = h }
 
-  module _ (hs : List ℕ) (r : Remarked 0 gs hs) where
+  module _ (hs : List ℕ) (m : Remarked 0 gs hs) where
     settled : (n : ℕ) → n < cells sh → missing gs n ≡ missing hs n
-    settled n l = sym (settled-missing gs hs r n (omega (arith, gs-size)))
+    settled n l = sym (settled-missing gs hs m n (omega (arith, gs-size)))
 
     settled-low : (n : ℕ) → n < length hs → getD hs n 0 ≤ 1
     settled-low n l =
-        ⊎-elim (λ (e : filled gs n ≡ true). omega (arith, r .marked n (omega (arith, r .size)) e))
-        (λ (e : filled gs n ≡ false). omega (arith, r .others n e, kept-then n e, flag-low n)) (true-or-false (filled gs n))
+        ⊎-elim (λ (e : filled gs n ≡ true). omega (arith, m .marked n (omega (arith, m .size)) e))
+        (λ (e : filled gs n ≡ false). omega (arith, m .others n e, kept-then n e, flag-low n)) (true-or-false (filled gs n))
 
-    settled-filling : Filling reduction sh xs (missing fs) (missing gs) ys → Filling reduction sh xs (missing fs) (missing hs) ys
+    settled-filling : Filling r sh xs (missing fs) (missing gs) ys → Filling r sh xs (missing fs) (missing hs) ys
     settled-filling f =
         record {
           size = f .size;
           bytes = f .bytes;
           known = f .known;
-          left = λ n w l m e. f .left n w l m (settled n l ∙ e);
+          cleared = λ n w l m e. f .cleared n w l m (settled n l ∙ e);
           lines = λ first stride len l e.
               f .lines first stride len l
               (onLine-cong (missing gs) (missing hs) first stride len (λ i m. settled (first + stride * i) (cube-fits sh first stride len l i m))
               ∙ e);
         }
 
-    pub filled-outcome : ((q : ℕ) → getD ys q 0 < 256) → AllRight sh ys gs → (left : ℕ) → left ≡ number (missing hs) (length gs)
-        → FillOutcome sh xs fs ys hs (Left left)
-    filled-outcome bytes h left e =
+    pub filled-outcome : ((q : ℕ) → getD ys q 0 < 256) → AllRight r sh ys gs → (n : ℕ) → n ≡ number (missing hs) (length gs)
+        → FillOutcome r sh xs fs ys hs (fillValue (Left n))
+    unfolding fillValue
+    filled-outcome bytes h n e =
         rw (e ∙ ap (number (missing hs)) gs-size)
-        (FillOutcome.filled done (r .size ∙ p .reaches .flags) (flags-valid hs settled-low) (largest-cong (cube-fits sh) settled peeled-largest)
+        (fill-done done (m .size ∙ p .reaches .flags) (flags-valid hs settled-low) (largest-cong (cube-fits sh) settled peeled-largest)
         (settled-filling (right-filling bytes h)))
 
   -- ---- contradiction
 
   -- a filling for the largest stopping set agrees with the cube, so that it is right where the cube is
-  filling-agrees : (v : List ℕ) → Filling reduction sh xs (missing fs) (missing gs) v → Agrees sh ys (missing gs) v
+  filling-agrees : (v : List ℕ) → Filling r sh xs (missing fs) (missing gs) v → Agrees sh ys (missing gs) v
   unfolding Agrees
   filling-agrees v f =
       p .reaches .agrees (missing gs) (peeled-largest .stopping) v (record { bytes = f .bytes; lines = f .lines })
       (λ n w l m e. f .known n w l m e ∙ sym (c .known n w l m e))
 
-  pub filling-right : (v : List ℕ) → Filling reduction sh xs (missing fs) (missing gs) v → AllRight sh ys gs
+  pub filling-right : (v : List ℕ) → Filling r sh xs (missing fs) (missing gs) v → AllRight r sh ys gs
   unfolding AllRight Right layerLine Agrees
   filling-right v f first stride len l e w m =
-      codeword-cong reduction (layerLine sh v w first stride) (layerLine sh ys w first stride) len
+      codeword-cong r (layerLine sh v w first stride) (layerLine sh ys w first stride) len
       (λ i b.
       filling-agrees v f (first + stride * i) w (cube-fits sh first stride len l i b) m (onLine-zero (missing gs) first stride len e i b))
       (f .lines first stride len l e w m)
 
-  module _ (ws hs : List ℕ) (d : Cleared sh ys (filled gs) ws) (r : Remarked 1 gs hs) where
+  module _ (ws hs : List ℕ) (d : Cleared sh ys (filled gs) ws) (m : Remarked 1 gs hs) where
     restored-flags : hs ≡ fs
     restored-flags =
-        ext-getD 0 hs fs (r .size ∙ p .reaches .flags)
+        ext-getD 0 hs fs (m .size ∙ p .reaches .flags)
         (λ n l.
-        ⊎-elim (λ (e : filled gs n ≡ true). r .marked n (omega (arith, r .size)) e ∙ sym (filled-then n e))
-        (λ (e : filled gs n ≡ false). r .others n e ∙ kept-then n e) (true-or-false (filled gs n)))
+        ⊎-elim (λ (e : filled gs n ≡ true). m .marked n (omega (arith, m .size)) e ∙ sym (filled-then n e))
+        (λ (e : filled gs n ≡ false). m .others n e ∙ kept-then n e) (true-or-false (filled gs n)))
 
     restored-known : (n w : ℕ) → n < cells sh → w < sh .w → missing fs n ≡ false → layer sh ws w n ≡ layer sh xs w n
-    restored-known n w l m e =
+    restored-known n w l b e =
         ⊎-elim (λ (k : filled gs n ≡ true). absurd (true≢false (sym (missing-one fs n (filled-then n k)) ∙ e)))
-        (λ (k : filled gs n ≡ false). d .known n w l m k ∙ peeled-known n w l m e) (true-or-false (filled gs n))
+        (λ (k : filled gs n ≡ false). d .known n w l b k ∙ peeled-known n w l b e) (true-or-false (filled gs n))
 
     restored-missing : (n w : ℕ) → n < cells sh → w < sh .w → missing fs n ≡ true → layer sh ws w n ≡ 0
-    restored-missing n w l m e =
-        ⊎-elim (λ (k : filled gs n ≡ true). d .missing n w l m k)
-        (λ (k : filled gs n ≡ false). d .known n w l m k ∙ peeled-left n w l m (missing-cong fs gs n (kept-then n k) ∙ e))
+    restored-missing n w l b e =
+        ⊎-elim (λ (k : filled gs n ≡ true). d .missing n w l b k)
+        (λ (k : filled gs n ≡ false). d .known n w l b k ∙ peeled-left n w l b (missing-cong fs gs n (kept-then n k) ∙ e))
         (true-or-false (filled gs n))
 
-    pub contradiction-outcome : (AllRight sh ys gs → ⊥) → FillOutcome sh xs fs ws hs (Impossible (Plain Contradiction))
+    pub contradiction-outcome : (AllRight r sh ys gs → ⊥) → FillOutcome r sh xs fs ws hs (fillValue (NotFilled (Plain Contradiction)))
+    unfolding fillValue refusal faultNumber
     contradiction-outcome wrong =
-        FillOutcome.contradiction done (missing gs) peeled-largest (λ v f. wrong (filling-right v f))
+        fill-contradiction done (missing gs) peeled-largest (λ v f. wrong (filling-right v f))
         (record { size = d .size ∙ p .reaches .size ∙ c .size; known = restored-known; missing = restored-missing }) restored-flags

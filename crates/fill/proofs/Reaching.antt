@@ -9,28 +9,29 @@ use native.Mathlib.Decide.{ℕ-discrete}
 use native.Mathlib.Omega.{arith}
 use lib.ListN.{length, getD, set, length-set}
 use lib.Seq.{getD-set-other}
-use Rattle.cube.specs.declared.Shape.{Shape}
-use Rattle.cube.specs.Shapes.{Valid, cells, IsLine}
+use Rattle.shape.specs.declared.Shape.{Shape}
+use Rattle.shape.specs.Shapes.{Valid, cells, IsLine}
 use Rattle.cube.specs.Cube.{layer, layerLine}
-use Rattle.cube.proofs.Geometry.{line-cell-lt, line-places-differ}
+use Rattle.shape.proofs.Geometry.{line-cell-lt, line-places-differ}
 use Rattle.line.specs.Line.{Codeword}
-use Rattle.line.specs.Run.{lineAt, Off, Solved}
-use Rattle.line.proofs.Runs.{solved-forced}
-use Rattle.field.specs.Field.{reduction}
-use Rattle.field.proofs.Primitive.{primitive}
+use Rattle.line.specs.Run.{lineAt, Off}
+use Rattle.line.proofs.Runs.{Solved, solved-forced}
+use Rattle.field.specs.Field.{Primitive}
 use Rattle.stopping.specs.Stopping.{number, onLine, Stopping}
 use Rattle.stopping.proofs.Number.{true-or-false, number-remove, number-le}
-use Rattle.stopping.proofs.Stopping.{Fits, onLine-none, peel, peel-inside}
-use Rattle.cube.specs.Flags.{missing}
-use Rattle.fill.specs.State.{Sized, Scanned, Stops, AxisStops, Agrees, CodeOff, Reaches, Filled, Peeled}
+use Rattle.stopping.proofs.Stopping.{onLine-none, peel, peel-inside}
+use Rattle.stopping.proofs.Cube.{cube-fits}
+use Rattle.shape.specs.Flags.{missing}
+use Rattle.fill.specs.Inner.Cells.{Sized}
+use Rattle.fill.specs.Inner.Peel.{Scanned, Stops, AxisStops, Agrees, CodeOff, Reaches, Filled, Peeled}
 use Rattle.fill.proofs.Clearing.{cells-apart}
 use Rattle.fill.proofs.Marks.{one-missing, missing-one, not-missing, missing-cong, missing-mark, both-marked, marked-length, marked-other, marked-last, marked-first}
 use Rattle.fill.proofs.Lines.{run-of, run-place, run-layer, run-inside, every-line}
 
 -- ---- one state reaches another
 
-pub reaches-refl : (sh : Shape) (xs fs : List ℕ) → Reaches sh xs fs xs fs
-reaches-refl sh xs fs =
+pub reaches-refl : (r : ℕ) (sh : Shape) (xs fs : List ℕ) → Reaches r sh xs fs xs fs
+reaches-refl r sh xs fs =
     record {
       size = refl;
       flags = refl;
@@ -41,23 +42,23 @@ reaches-refl sh xs fs =
       agrees = λ K u v c a. a;
     }
 
-module _ {sh : Shape} {xs fs ys gs : List ℕ} (r : Reaches sh xs fs ys gs) where
+module _ {r : ℕ} {sh : Shape} {xs fs ys gs : List ℕ} (h : Reaches r sh xs fs ys gs) where
   -- what is not missing stays so, and what is missing was so
   pub reaches-known : (n : ℕ) → missing fs n ≡ false → missing gs n ≡ false
   reaches-known n e =
       ⊎-elim (λ (k : getD gs n 0 ≡ getD fs n 0). missing-cong fs gs n k ∙ e)
-      (λ (k : (getD fs n 0 ≡ 1) × (getD gs n 0 ≡ 3)). absurd (true≢false (sym (missing-one fs n (k .0)) ∙ e))) (r .marks n)
+      (λ (k : (getD fs n 0 ≡ 1) × (getD gs n 0 ≡ 3)). absurd (true≢false (sym (missing-one fs n (k .0)) ∙ e))) (h .marks n)
 
   pub reaches-missing : (n : ℕ) → missing gs n ≡ true → missing fs n ≡ true
   reaches-missing n e =
       ⊎-elim (λ t. t) (λ f. absurd (true≢false (sym e ∙ reaches-known n f))) (true-or-false (missing fs n))
 
   pub reaches-stopping : (S : ℕ → Bool) → Stopping (cells sh) (IsLine sh) (missing fs) S → Stopping (cells sh) (IsLine sh) (missing gs) S
-  reaches-stopping S u = record { inside = r .inside S u; meets = u .meets }
+  reaches-stopping S u = record { inside = h .inside S u; meets = u .meets }
 
-pub reaches-trans : {sh : Shape} {xs fs ys gs zs hs : List ℕ} → Reaches sh xs fs ys gs → Reaches sh ys gs zs hs → Reaches sh xs fs zs hs
+pub reaches-trans : {r : ℕ} {sh : Shape} {xs fs ys gs zs hs : List ℕ} → Reaches r sh xs fs ys gs → Reaches r sh ys gs zs hs → Reaches r sh xs fs zs hs
 unfolding Agrees
-reaches-trans {sh} {xs} {fs} {ys} {gs} {zs} {hs} p q =
+reaches-trans {r} {sh} {xs} {fs} {ys} {gs} {zs} {hs} p q =
     record {
       size = q .size ∙ p .size;
       flags = q .flags ∙ p .flags;
@@ -75,24 +76,24 @@ reaches-trans {sh} {xs} {fs} {ys} {gs} {zs} {hs} p q =
       agrees = λ K u v c a. q .agrees K (reaches-stopping p K u) v c (p .agrees K u v c a);
     }
 
-pub reaches-sized : {sh : Shape} {xs fs ys gs : List ℕ} → Sized sh xs fs → Reaches sh xs fs ys gs → Sized sh ys gs
-reaches-sized z r = record { valid = z .valid; bytes = r .size ∙ z .bytes; flags = r .flags ∙ z .flags }
+pub reaches-sized : {r : ℕ} {sh : Shape} {xs fs ys gs : List ℕ} → Sized sh xs fs → Reaches r sh xs fs ys gs → Sized sh ys gs
+reaches-sized z h = record { valid = z .valid; bytes = h .size ∙ z .bytes; flags = h .flags ∙ z .flags }
 
 -- ---- steps of peeling
 
-module _ {sh : Shape} where
-  pub filled-none : (P : List ℕ → Type 0) (xs fs : List ℕ) → P fs → Filled sh P xs fs xs fs 0
+module _ {r : ℕ} {sh : Shape} where
+  pub filled-none : (P : List ℕ → Type 0) (xs fs : List ℕ) → P fs → Filled r sh P xs fs xs fs 0
   filled-none P xs fs p =
-      record { reaches = reaches-refl sh xs fs; fewer = omega arith; idle = λ e. refl; stopped = λ e. p }
+      record { reaches = reaches-refl r sh xs fs; fewer = omega arith; idle = λ e. refl; stopped = λ e. p }
 
-  pub filled-weaken : {P : List ℕ → Type 0} {xs fs ys gs : List ℕ} {r : ℕ} (Q : List ℕ → Type 0) → (P fs → Q fs) → Filled sh P xs fs ys gs r
-      → Filled sh Q xs fs ys gs r
+  pub filled-weaken : {P : List ℕ → Type 0} {xs fs ys gs : List ℕ} {n : ℕ} (Q : List ℕ → Type 0) → (P fs → Q fs) → Filled r sh P xs fs ys gs n
+      → Filled r sh Q xs fs ys gs n
   filled-weaken Q f h = record { reaches = h .reaches; fewer = h .fewer; idle = h .idle; stopped = λ e. f (h .stopped e) }
 
   -- one after the other
-  pub filled-next : {P Q : List ℕ → Type 0} {xs fs ys gs zs hs : List ℕ} {r q : ℕ} (R : List ℕ → Type 0) → (P fs → Q fs → R fs)
-      → Filled sh P xs fs ys gs r → Filled sh Q ys gs zs hs q → Filled sh R xs fs zs hs (r + q)
-  filled-next {P} {Q} {xs} {fs} {ys} {gs} {zs} {hs} {r} {q} R f a b =
+  pub filled-next : {P Q : List ℕ → Type 0} {xs fs ys gs zs hs : List ℕ} {m n : ℕ} (R : List ℕ → Type 0) → (P fs → Q fs → R fs)
+      → Filled r sh P xs fs ys gs m → Filled r sh Q ys gs zs hs n → Filled r sh R xs fs zs hs (m + n)
+  filled-next {P} {Q} {xs} {fs} {ys} {gs} {zs} {hs} {m} {n} R f a b =
       record {
         reaches = reaches-trans (a .reaches) (b .reaches);
         fewer = omega (arith, a .fewer, b .fewer);
@@ -101,13 +102,10 @@ module _ {sh : Shape} where
       }
 
   -- no more than there are cells
-  pub filled-le : {P : List ℕ → Type 0} {xs fs ys gs : List ℕ} {r : ℕ} → Filled sh P xs fs ys gs r → r ≤ cells sh
+  pub filled-le : {P : List ℕ → Type 0} {xs fs ys gs : List ℕ} {n : ℕ} → Filled r sh P xs fs ys gs n → n ≤ cells sh
   filled-le {P} {xs} {fs} h = omega (arith, h .fewer, number-le (missing fs) (cells sh))
 
 -- ---- a line filled
-
-pub cube-fits : (sh : Shape) → Fits (cells sh) (IsLine sh)
-cube-fits sh first stride len l i m = line-cell-lt sh first stride len i l m
 
 at-or-off : (n a b : ℕ) → ((n ≡ a) ⊎ (n ≡ b)) ⊎ ((n ≢ a) × (n ≢ b))
 at-or-off n a b =
@@ -124,10 +122,10 @@ cell-off sh first stride len i n t b ne =
     (λ (a : (first + stride * i) * sh .w + sh .w ≤ n * sh .w + t). inr (omega (arith, run-place (sh .w) first stride i)))
     (cells-apart n (first + stride * i) (sh .w) t ne b)
 
-module _ (sh : Shape) (xs fs ys : List ℕ) (z : Sized sh xs fs) (bytes : (p : ℕ) → getD xs p 0 < 256)
+module _ (r : ℕ) (prim : Primitive r) (sh : Shape) (xs fs ys : List ℕ) (z : Sized sh xs fs) (bytes : (p : ℕ) → getD xs p 0 < 256)
     (first stride len count j k : ℕ) (l : IsLine sh first stride len)
     (s : Scanned (missing fs) first stride len count j k) (some : 1 ≤ count) (few : count ≤ 2)
-    (o : Solved reduction (run-of sh first stride len) j k xs ys) where
+    (o : Solved r (run-of sh first stride len) j k xs ys) where
   abbrev gs : List ℕ
   gs = both-marked fs (first + stride * j) (first + stride * k)
 
@@ -167,19 +165,19 @@ module _ (sh : Shape) (xs fs ys : List ℕ) (z : Sized sh xs fs) (bytes : (p : �
   line-few = omega (arith, s .number)
 
   -- what agrees before, and is a codeword on the line in layer t, is the line afterwards
-  forced : (v : List ℕ) → ((p : ℕ) → getD v p 0 < 256) → (t : ℕ) → t < sh .w → Codeword reduction (layerLine sh v t first stride) len
+  forced : (v : List ℕ) → ((p : ℕ) → getD v p 0 < 256) → (t : ℕ) → t < sh .w → Codeword r (layerLine sh v t first stride) len
       → Agrees sh xs (missing fs) v → (i : ℕ) → i < len → layer sh v t (first + stride * i) ≡ layer sh ys t (first + stride * i)
   unfolding Agrees layerLine lineAt layer
   forced v bv t b w a i q =
       sym
-      (solved-forced reduction (run-of sh first stride len) j k xs ys primitive (run-inside sh xs fs z first stride len l) o (s .order some)
+      (solved-forced r (run-of sh first stride len) j k xs ys prim (run-inside sh xs fs z first stride len l) o (s .order some)
       (s .bound some) t b (λ m h. bytes _) (layerLine sh v t first stride) (λ m h. bv _) w
       (λ m h nj nk.
       a (first + stride * m) t (line-cell-lt sh first stride len m l h) b (s .others few m h nj nk)
       ∙ sym (run-layer sh xs first stride len t m)) i q)
       ∙ run-layer sh ys first stride len t i
 
-  line-agrees : (K : ℕ → Bool) → Stopping (cells sh) (IsLine sh) (missing fs) K → (v : List ℕ) → CodeOff sh K v → Agrees sh xs (missing fs) v
+  line-agrees : (K : ℕ → Bool) → Stopping (cells sh) (IsLine sh) (missing fs) K → (v : List ℕ) → CodeOff r sh K v → Agrees sh xs (missing fs) v
       → Agrees sh ys (missing gs) v
   unfolding Agrees
   line-agrees K u v c a n t h b e =
@@ -195,7 +193,7 @@ module _ (sh : Shape) (xs fs ys : List ℕ) (z : Sized sh xs fs) (bytes : (p : �
           forced v (c .bytes) t b
           (c .lines first stride len l (onLine-none K first stride len (peel (cube-fits sh) u (u .inside) first stride len l line-few)) t b) a
 
-  pub line-reaches : Reaches sh xs fs ys gs
+  pub line-reaches : Reaches r sh xs fs ys gs
   line-reaches =
       record {
         size = o .size;
@@ -236,7 +234,7 @@ module _ (sh : Shape) (xs fs ys : List ℕ) (z : Sized sh xs fs) (bytes : (p : �
                 (omega (arith, z .flags, length-set fs (first + stride * j) 3)) later,
           )
 
-  pub line-filled : Filled sh (λ hs. Stops hs first stride len) xs fs ys gs count
+  pub line-filled : Filled r sh (λ hs. Stops hs first stride len) xs fs ys gs count
   line-filled =
       record {
         reaches = line-reaches;
@@ -246,10 +244,10 @@ module _ (sh : Shape) (xs fs ys : List ℕ) (z : Sized sh xs fs) (bytes : (p : �
       }
 
 -- a line with no missing cell or more than two
-pub line-idle : (sh : Shape) (xs fs : List ℕ) (first stride len : ℕ) → (onLine (missing fs) first stride len ≡ 0) ⊎ (3 ≤ onLine (missing fs) first stride len)
-    → Filled sh (λ hs. Stops hs first stride len) xs fs xs fs 0
+pub line-idle : (r : ℕ) (sh : Shape) (xs fs : List ℕ) (first stride len : ℕ) → (onLine (missing fs) first stride len ≡ 0) ⊎ (3 ≤ onLine (missing fs) first stride len)
+    → Filled r sh (λ hs. Stops hs first stride len) xs fs xs fs 0
 unfolding Stops
-line-idle sh xs fs first stride len s =
+line-idle r sh xs fs first stride len s =
     filled-none (λ hs. Stops hs first stride len) xs fs s
 
 -- ---- the axes over and over
@@ -278,27 +276,27 @@ module _ (sh : Shape) where
       let e : (axis + 1 + 2 * ((2 * a + axis + 2) % 3)) % 3 + 1 ≡ a = omega arith in
       subst (AxisStops sh fs) e (h ((2 * a + axis + 2) % 3) (omega arith))
 
-module _ {sh : Shape} {xs fs ys gs : List ℕ} {r : ℕ} (axis : ℕ) (h : Filled sh (λ hs. AxisStops sh hs axis) xs fs ys gs r)
-    (idle next : ℕ) (turn : ((r ≡ 0) × (next ≡ idle + 1)) ⊎ ((r ≢ 0) × (next ≡ 0))) where
+module _ {r : ℕ} {sh : Shape} {xs fs ys gs : List ℕ} {n : ℕ} (axis : ℕ) (h : Filled r sh (λ hs. AxisStops sh hs axis) xs fs ys gs n)
+    (idle next : ℕ) (turn : ((n ≡ 0) × (next ≡ idle + 1)) ⊎ ((n ≢ 0) × (next ≡ 0))) where
   pub turn-idle : 1 ≤ axis → axis ≤ 3 → Idle sh fs axis idle → Idle sh gs (axis % 3 + 1) next
   turn-idle p q i =
       ⊎-elim
-      (λ (t : (r ≡ 0) × (next ≡ idle + 1)).
+      (λ (t : (n ≡ 0) × (next ≡ idle + 1)).
       rw (t .1, h .idle (t .0)) (idle-next sh fs axis idle p q i (h .stopped (t .0))))
-      (λ (t : (r ≢ 0) × (next ≡ 0)). rw (t .1) (idle-none sh gs (axis % 3 + 1))) turn
+      (λ (t : (n ≢ 0) × (next ≡ 0)). rw (t .1) (idle-none sh gs (axis % 3 + 1))) turn
 
   pub turn-bound : idle < 3 → next ≤ 3
   turn-bound l =
-      ⊎-elim (λ (t : (r ≡ 0) × (next ≡ idle + 1)). omega arith) (λ (t : (r ≢ 0) × (next ≡ 0)). omega arith) turn
+      ⊎-elim (λ (t : (n ≡ 0) × (next ≡ idle + 1)). omega arith) (λ (t : (n ≢ 0) × (next ≡ 0)). omega arith) turn
 
   -- a sweep fills a cell or is idle
   pub turn-less : idle < 3 → number (missing gs) (cells sh) * 4 + (3 - next) < number (missing fs) (cells sh) * 4 + (3 - idle)
   turn-less l =
-      ⊎-elim (λ (t : (r ≡ 0) × (next ≡ idle + 1)). omega (arith, h .fewer)) (λ (t : (r ≢ 0) × (next ≡ 0)). omega (arith, h .fewer)) turn
+      ⊎-elim (λ (t : (n ≡ 0) × (next ≡ idle + 1)). omega (arith, h .fewer)) (λ (t : (n ≢ 0) × (next ≡ 0)). omega (arith, h .fewer)) turn
 
 -- where the three axes have no line to peel, no line of the cube is left
-pub axes-peeled : {sh : Shape} {xs fs ys gs : List ℕ} (axis : ℕ) → Valid sh → 1 ≤ axis → axis ≤ 3 → Idle sh gs axis 3 → Reaches sh xs fs ys gs
-    → Peeled sh xs fs ys gs
+pub axes-peeled : {r : ℕ} {sh : Shape} {xs fs ys gs : List ℕ} (axis : ℕ) → Valid sh → 1 ≤ axis → axis ≤ 3 → Idle sh gs axis 3 → Reaches r sh xs fs ys gs
+    → Peeled r sh xs fs ys gs
 unfolding AxisStops
-axes-peeled {sh} {xs} {fs} {ys} {gs} axis v p q i r =
-    record { reaches = r; stops = every-line sh (Stops gs) v (idle-all sh gs axis p q i) }
+axes-peeled {r} {sh} {xs} {fs} {ys} {gs} axis v p q i h =
+    record { reaches = h; stops = every-line (Stops gs) v (idle-all sh gs axis p q i) }

@@ -9,25 +9,24 @@ use Prim.Native.Nat.{ℕ, zero, suc, _+_, _-_, _*_, _/_, _≤_, _<_}
 use native.Mathlib.Omega.{arith}
 use lib.Arith.{digits-div, digits-lt}
 use lib.ListN.{length, getD}
-use Rattle.cube.specs.declared.Shape.{Shape}
-use Rattle.cube.specs.declared.Fault.the-variants.{Contradiction}
-use Rattle.cube.specs.declared.Refusal.the-variants.{Plain}
-use Rattle.cube.specs.declared.Answer.the-variants.{Done}
-use Rattle.cube.specs.Shapes.{Valid, cells, cell, measured, IsLine}
-use Rattle.cube.specs.Cube.{layer, layerLine, CodeCube}
-use Rattle.cube.proofs.Valid.{volume-le}
-use Rattle.cube.proofs.Geometry.{line-cell-lt}
+use Rattle.answer.specs.declared.Refusal.{Refusal}
+use Rattle.answer.specs.Values.{Value, gives, refused, passes, refusal}
+use Rattle.answer.proofs.Values.{refusal-gives, refusal-injective}
+use Rattle.field.specs.Field.{Primitive}
 use Rattle.line.proofs.Codeword.{codeword-cong}
-use Rattle.field.specs.Field.{reduction}
-use Rattle.field.proofs.Primitive.{primitive}
-use Rattle.stopping.specs.Stopping.{number, onLine, Stopping, Largest}
+use Rattle.shape.specs.declared.Shape.{Shape}
+use Rattle.shape.specs.Shapes.{Valid, cells, cell, IsLine}
+use Rattle.shape.specs.Flags.{missing, flagsValid}
+use Rattle.shape.proofs.Valid.{volume-le}
+use Rattle.shape.proofs.Geometry.{line-cell-lt}
+use Rattle.cube.specs.Cube.{layer, layerLine, CodeCube}
+use Rattle.stopping.specs.Stopping.{number, Largest}
 use Rattle.stopping.proofs.Number.{not-true-false, member, number-le, number-zero}
 use Rattle.stopping.proofs.Stopping.{onLine-zero, stopping-size}
-use Rattle.stopping.proofs.Cube.{CubeLine, cube-none-or-27, cube-data}
+use Rattle.stopping.proofs.Cube.{stopping-none-or-27, stopping-data}
 use Rattle.fill.specs.declared.FillAnswer.{FillAnswer}
-use Rattle.fill.specs.declared.FillAnswer.the-variants.{Left, Impossible}
-use Rattle.cube.specs.Flags.{missing, flagsValid}
-use Rattle.fill.specs.Fill.{flagsChecked, Filling, Cleared, FillOutcome}
+use Rattle.fill.specs.declared.FillAnswer.the-variants.{Left, Refused}
+use Rattle.fill.specs.Fill.{CellsLeft, left, fillValue, flagsChecked, Filling, Cleared, FillOutcome, fill-refused, fill-done, fill-contradiction}
 use Rattle.fill.proofs.Checks.{done-sized}
 use Rattle.fill.proofs.Unique.{layers-ext, filling-unique, done-refused}
 
@@ -86,19 +85,19 @@ module _ (sh : Shape) (K : ℕ → Bool) (xs : List ℕ) (size : length xs ≡ s
 -- ---- the known cells are a code cube's
 
 -- X with 00h on K is a filling
-code-filling : (sh : Shape) (xs X : List ℕ) (M K : ℕ → Bool) → length xs ≡ sh .w * cells sh → CodeCube reduction sh X
-    → ((p : ℕ) → getD X p 0 < 256) → ((n w : ℕ) → n < cells sh → w < sh .w → M n ≡ false → layer sh xs w n ≡ layer sh X w n)
-    → ((n : ℕ) → n < cells sh → K n ≡ true → M n ≡ true) → Filling reduction sh xs M K (without sh K X)
+code-filling : (r : ℕ) (sh : Shape) (xs X : List ℕ) (M K : ℕ → Bool) → length xs ≡ sh .w * cells sh → CodeCube r sh X
+    → ((n w : ℕ) → n < cells sh → w < sh .w → M n ≡ false → layer sh xs w n ≡ layer sh X w n)
+    → ((n : ℕ) → n < cells sh → K n ≡ true → M n ≡ true) → Filling r sh xs M K (without sh K X)
 unfolding layerLine
-code-filling sh xs X M K size code bytes known inside =
+code-filling r sh xs X M K size code known inside =
     record {
       size = cleared .size ∙ code .size ∙ sym size;
-      bytes = without-lt sh K X (code .size) bytes;
+      bytes = without-lt sh K X (code .size) (code .bytes);
       known = λ n w l b e.
           cleared .known n w l b (not-true-false (K n) (λ k. true≢false (sym (inside n l k) ∙ e))) ∙ sym (known n w l b e);
-      left = cleared .missing;
+      cleared = cleared .missing;
       lines = λ first stride len l z w b.
-          codeword-cong reduction (layerLine sh X w first stride) (layerLine sh (without sh K X) w first stride) len
+          codeword-cong r (layerLine sh X w first stride) (layerLine sh (without sh K X) w first stride) len
           (λ i m. sym (cleared .known (first + stride * i) w (line-cell-lt sh first stride len i l m) b (onLine-zero K first stride len z i m)))
           (code .lines first stride len l w b);
     }
@@ -107,89 +106,87 @@ code-filling sh xs X M K size code bytes known inside =
     cleared = without-cleared sh K X (code .size)
 
 -- the answer, cube and flags of a call on a code cube X with erasures: X with 00h on the cells left, which are the largest stopping set
-pub record Recovered (sh : Shape) (fs X xs′ fs′ : List ℕ) (answer : FillAnswer) : Type 0 where
-  pub left : answer ≡ Left (number (missing fs′) (cells sh))
+pub record Recovered (sh : Shape) (fs X xs′ fs′ : List ℕ) (value : Value CellsLeft) : Type 0 where
+  pub answer : value ≡ gives (left (number (missing fs′) (cells sh)))
   pub size : length fs′ ≡ length fs
   pub valid : flagsValid fs′ ≡ true
   pub largest : Largest (cells sh) (IsLine sh) (missing fs) (missing fs′)
   pub cube : Cleared sh X (missing fs′) xs′
 
-pub code-recovered : {sh : Shape} {xs fs xs′ fs′ : List ℕ} {answer : FillAnswer} → FillOutcome sh xs fs xs′ fs′ answer
-    → flagsChecked (measured sh) (length xs) fs ≡ Done → (X : List ℕ) → CodeCube reduction sh X → ((p : ℕ) → getD X p 0 < 256)
-    → ((n w : ℕ) → n < cells sh → w < sh .w → missing fs n ≡ false → layer sh xs w n ≡ layer sh X w n) → Recovered sh fs X xs′ fs′ answer
-code-recovered (FillOutcome.refused f p x g) done X code bytes known = absurd (done-refused done p)
-code-recovered {sh} {xs} {fs} {xs′} {fs′} (FillOutcome.filled d s v k u) done X code bytes known =
+pub code-recovered : {r : ℕ} {sh : Shape} {xs fs xs′ fs′ : List ℕ} {value : Value CellsLeft} → Primitive r → FillOutcome r sh xs fs xs′ fs′ value
+    → flagsChecked sh (length xs) fs ≡ passes tt → (X : List ℕ) → CodeCube r sh X
+    → ((n w : ℕ) → n < cells sh → w < sh .w → missing fs n ≡ false → layer sh xs w n ≡ layer sh X w n) → Recovered sh fs X xs′ fs′ value
+code-recovered prim (fill-refused n e x g) done X code known = absurd (done-refused done e)
+code-recovered {r} {sh} {xs} {fs} {xs′} {fs′} prim (fill-done d s v k u) done X code known =
     let z = done-sized sh xs fs d in
-    let y = code-filling sh xs X (missing fs) (missing fs′) (z .bytes) code bytes known (k .stopping .inside) in
+    let y = code-filling r sh xs X (missing fs) (missing fs′) (z .bytes) code known (k .stopping .inside) in
     let same : without sh (missing fs′) X ≡ xs′ =
-    filling-unique reduction primitive sh (z .valid) xs (missing fs) (missing fs′) k (without sh (missing fs′) X) xs′ y u (z .bytes) in
+    filling-unique r prim sh (z .valid) xs (missing fs) (missing fs′) k (without sh (missing fs′) X) xs′ y u (z .bytes) in
     record {
-      left = refl;
+      answer = refl;
       size = s;
       valid = v;
       largest = k;
       cube = subst (Cleared sh X (missing fs′)) same (without-cleared sh (missing fs′) X (code .size));
     }
-code-recovered {sh} {xs} {fs} (FillOutcome.contradiction d K l n c e) done X code bytes known =
-    absurd (n _ (code-filling sh xs X (missing fs) K (done-sized sh xs fs d .bytes) code bytes known (l .stopping .inside)))
+code-recovered {r} {sh} {xs} {fs} prim (fill-contradiction d K l n c e) done X code known =
+    absurd (n _ (code-filling r sh xs X (missing fs) K (done-sized sh xs fs d .bytes) code known (l .stopping .inside)))
 
 -- with nothing left the cube is X
-pub recovered-whole : {sh : Shape} {fs X xs′ fs′ : List ℕ} {answer : FillAnswer} → Recovered sh fs X xs′ fs′ answer → Valid sh
+pub recovered-whole : {sh : Shape} {fs X xs′ fs′ : List ℕ} {value : Value CellsLeft} → Recovered sh fs X xs′ fs′ value → Valid sh
     → length X ≡ sh .w * cells sh → number (missing fs′) (cells sh) ≡ 0 → xs′ ≡ X
-recovered-whole {sh} {fs} {X} {xs′} {fs′} r v size none =
-    layers-ext sh xs′ X v (r .cube .size ∙ size) size (λ n w l b. r .cube .known n w l b (number-zero (missing fs′) (cells sh) none n l))
+recovered-whole {sh} {fs} {X} {xs′} {fs′} h v size none =
+    layers-ext sh xs′ X v (h .cube .size ∙ size) size (λ n w l b. h .cube .known n w l b (number-zero (missing fs′) (cells sh) none n l))
 
 -- ---- how many cells are left
 
-family-line : (sh : Shape) (first stride len : ℕ) → CubeLine (sh .l1) (sh .l2) (sh .l3) first stride len → IsLine sh first stride len
-unfolding cell
-family-line sh _ _ _ (CubeLine.axis1 b c p q) = IsLine.axis1 b c p q
-family-line sh _ _ _ (CubeLine.axis2 a c p q) = IsLine.axis2 a c p q
-family-line sh _ _ _ (CubeLine.axis3 a b p q) = IsLine.axis3 a b p q
+module _ {r : ℕ} {sh : Shape} {xs fs xs′ fs′ : List ℕ} where
+  -- the number left is 0, or 27 or more and a data cell is left
+  pub left-none-or-27 : {n : ℕ} → FillOutcome r sh xs fs xs′ fs′ (gives (left n)) → (n ≡ 0) ⊎ (27 ≤ n)
+  left-none-or-27 (fill-done d s v k u) = stopping-none-or-27 (k .stopping)
 
-module _ {sh : Shape} {M K : ℕ → Bool} (u : Stopping (cells sh) (IsLine sh) M K) where
-  cube-meets :
-      (first stride len : ℕ) → CubeLine (sh .l1) (sh .l2) (sh .l3) first stride len →
-      (onLine K first stride len ≡ 0) ⊎ (3 ≤ onLine K first stride len)
-  cube-meets first stride len l = u .meets first stride len (family-line sh first stride len l)
+  pub left-data : {n : ℕ} → FillOutcome r sh xs fs xs′ fs′ (gives (left n)) → n ≢ 0
+      → (a : ℕ) × (b : ℕ) × (c : ℕ) × (a < sh .l1 - 2) × (b < sh .l2 - 2) × (c < sh .l3 - 2) × (missing fs′ (cell sh a b c) ≡ true)
+  left-data (fill-done d s v k u) some =
+      let (n, l, e) = member (missing fs′) (cells sh) (omega arith) in
+      stopping-data (k .stopping) n l e
 
-  -- "Any nonempty stuck set has 27 or more cells, and one of them is a data cell."
-  pub stopping-none-or-27 : (number K (cells sh) ≡ 0) ⊎ (27 ≤ number K (cells sh))
+  -- no more cells are left than the largest cube has
+  pub left-le : {n : ℕ} → FillOutcome r sh xs fs xs′ fs′ (gives (left n)) → n ≤ 16581375
   unfolding cells
-  stopping-none-or-27 = cube-none-or-27 (sh .l1) (sh .l2) (sh .l3) K cube-meets
+  left-le (fill-done d s v k u) =
+      let ok : Valid sh = done-sized sh xs fs d .valid in
+      omega
+      (arith, number-le (missing fs′) (cells sh), volume-le (sh .l1) (sh .l2) (sh .l3) (ok .l1-high) (ok .l2-high) (ok .l3-high))
 
-  pub stopping-data :
-      number K (cells sh) ≢ 0 →
-      (a : ℕ) × (b : ℕ) × (c : ℕ) × (a < sh .l1 - 2) × (b < sh .l2 - 2) × (c < sh .l3 - 2) × (K (cell sh a b c) ≡ true)
-  unfolding cells cell
-  stopping-data some =
-      let (n, l, e) = member K (cells sh) (omega arith) in
-      cube-data (sh .l1) (sh .l2) (sh .l3) K cube-meets n l e
+  -- 26 or fewer missing cells are all filled, or the known cells contradict each other
+  pub few-filled : {value : Value CellsLeft} → FillOutcome r sh xs fs xs′ fs′ value
+      → flagsChecked sh (length xs) fs ≡ passes tt → number (missing fs) (cells sh) ≤ 26
+      → (value ≡ gives (left 0)) ⊎ (value ≡ refused 13)
+  few-filled (fill-refused n e x g) done few = absurd (done-refused done e)
+  few-filled (fill-done d s v k u) done few =
+      inl
+      (ap (λ (n : ℕ). gives (left n))
+      (⊎-elim (λ z. z) (λ (t : 27 ≤ number (missing fs′) (cells sh)). absurd (omega (arith, stopping-size (k .stopping))))
+      (stopping-none-or-27 (k .stopping))))
+  few-filled (fill-contradiction d K l n c e) done few = inr refl
 
--- the number left is 0, or 27 or more and a data cell is left
-pub left-none-or-27 : {sh : Shape} {xs fs xs′ fs′ : List ℕ} {n : ℕ} → FillOutcome sh xs fs xs′ fs′ (Left n) → (n ≡ 0) ⊎ (27 ≤ n)
-left-none-or-27 (FillOutcome.filled d s v k u) = stopping-none-or-27 (k .stopping)
+-- ---- a value names one answer
 
-pub left-data : {sh : Shape} {xs fs xs′ fs′ : List ℕ} {n : ℕ} → FillOutcome sh xs fs xs′ fs′ (Left n) → n ≢ 0
-    → (a : ℕ) × (b : ℕ) × (c : ℕ) × (a < sh .l1 - 2) × (b < sh .l2 - 2) × (c < sh .l3 - 2) × (missing fs′ (cell sh a b c) ≡ true)
-left-data (FillOutcome.filled d s v k u) some = stopping-data (k .stopping) some
+pub fill-injective : (a b : FillAnswer) → fillValue a ≡ fillValue b → a ≡ b
+unfolding fillValue
+fill-injective (Left m) (Left n) e = cc
+fill-injective (Left m) (Refused f) e = absurd (refusal-gives f (left m) (sym e))
+fill-injective (Refused f) (Left n) e = absurd (refusal-gives f (left n) e)
+fill-injective (Refused f) (Refused g) e = ap Refused (refusal-injective f g e)
 
--- no more cells are left than the largest cube has
-pub left-le : {sh : Shape} {xs fs xs′ fs′ : List ℕ} {n : ℕ} → FillOutcome sh xs fs xs′ fs′ (Left n) → n ≤ 16581375
-unfolding cells
-left-le {sh} {xs} {fs} {xs′} {fs′} (FillOutcome.filled d s v k u) =
-    let ok : Valid sh = done-sized sh xs fs d .valid in
-    omega
-    (arith, number-le (missing fs′) (cells sh), volume-le (sh .l1) (sh .l2) (sh .l3) (ok .l1-high) (ok .l2-high) (ok .l3-high))
+-- what a caller learns from an answer
+pub left-outcome : {r : ℕ} {sh : Shape} {xs fs xs′ fs′ : List ℕ} (a : FillAnswer) (n : ℕ) → FillOutcome r sh xs fs xs′ fs′ (fillValue a) → a ≡ Left n
+    → FillOutcome r sh xs fs xs′ fs′ (gives (left n))
+unfolding fillValue
+left-outcome a n o e = rw e at o
 
--- 26 or fewer missing cells are all filled, or the known cells contradict each other
-pub few-filled : {sh : Shape} {xs fs xs′ fs′ : List ℕ} {answer : FillAnswer} → FillOutcome sh xs fs xs′ fs′ answer
-    → flagsChecked (measured sh) (length xs) fs ≡ Done → number (missing fs) (cells sh) ≤ 26
-    → (answer ≡ Left 0) ⊎ (answer ≡ Impossible (Plain Contradiction))
-few-filled (FillOutcome.refused f p x g) done few = absurd (done-refused done p)
-few-filled {sh} {xs} {fs} {xs′} {fs′} (FillOutcome.filled d s v k u) done few =
-    inl
-    (ap Left
-    (⊎-elim (λ z. z) (λ (t : 27 ≤ number (missing fs′) (cells sh)). absurd (omega (arith, stopping-size (k .stopping))))
-    (stopping-none-or-27 (k .stopping))))
-few-filled (FillOutcome.contradiction d K l n c e) done few = inr refl
+pub refused-outcome : {r : ℕ} {sh : Shape} {xs fs xs′ fs′ : List ℕ} (a : FillAnswer) (f : Refusal) → FillOutcome r sh xs fs xs′ fs′ (fillValue a)
+    → a ≡ Refused f → FillOutcome r sh xs fs xs′ fs′ (refusal f)
+unfolding fillValue
+refused-outcome a f o e = rw e at o

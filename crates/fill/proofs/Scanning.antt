@@ -8,7 +8,7 @@ use native.Mathlib.Decide.{ℕ-discrete}
 use native.Mathlib.Omega.{arith}
 use Rattle.stopping.specs.Stopping.{number, onLine}
 use Rattle.stopping.proofs.Number.{number-nil, number-in, number-out, number-zero}
-use Rattle.fill.specs.State.{Scanned}
+use Rattle.fill.specs.Inner.Peel.{Scanned}
 
 module _ (M : ℕ → Bool) (start stride : ℕ) where
   line-in : (n : ℕ) → M (start + stride * n) ≡ true → onLine M start stride (n + 1) ≡ onLine M start stride n + 1

@@ -12,25 +12,22 @@ use borrow.Author.Tests.{eqb-true, eq-eqb, not-false}
 use lib.Dec.{eqb}
 use lib.ListN.{length, getD}
 use lib.Seq.{ext-getD}
-use Rattle.cube.specs.declared.Shape.{Shape}
-use Rattle.cube.specs.declared.Refusal.{Refusal}
-use Rattle.cube.specs.declared.Answer.{Answer}
-use Rattle.cube.specs.declared.Answer.the-variants.{Done, Refused}
-use Rattle.cube.specs.Shapes.{Valid, cells, measured, IsLine}
-use Rattle.cube.specs.Cube.{layer, layerLine}
-use Rattle.cube.proofs.Geometry.{cell-lt-cells, line-cell-lt, line-length-high}
-use Rattle.cube.proofs.Unique.{cells-ext}
+use Rattle.answer.specs.Values.{Value, gives, refused, Checked, passes, fails}
+use Rattle.answer.proofs.Values.{fails-injective, passes-fails}
+use Rattle.field.specs.Field.{Primitive}
 use Rattle.line.proofs.Codeword.{codeword-unique}
-use Rattle.field.specs.Field.{reduction, Primitive}
-use Rattle.field.proofs.Primitive.{primitive}
+use Rattle.shape.specs.declared.Shape.{Shape}
+use Rattle.shape.specs.Shapes.{Valid, cells, IsLine}
+use Rattle.shape.specs.Flags.{missing, flagsValid}
+use Rattle.shape.proofs.Geometry.{cell-lt-cells, line-cell-lt, line-length-high}
+use Rattle.cube.specs.Cube.{layer, layerLine}
+use Rattle.cube.proofs.Unique.{cells-ext}
 use Rattle.stopping.specs.Stopping.{number, onLine, Stopping, Largest}
 use Rattle.stopping.proofs.Number.{true-or-false, not-true-false, number-few}
 use Rattle.stopping.proofs.Stopping.{union, union-left, union-right, union-cases, union-neither, onLine-mono, onLine-cong, onLine-none, onLine-zero, stops-or-peels, largest-unique}
-use Rattle.fill.specs.declared.FillAnswer.{FillAnswer}
-use Rattle.fill.specs.declared.FillAnswer.the-variants.{Left, Impossible}
-use Rattle.cube.specs.Flags.{missing, flagsValid}
-use Rattle.fill.specs.Fill.{flagsChecked, Filling, Cleared, FillOutcome}
-use Rattle.fill.specs.State.{Sized}
+use Rattle.fill.specs.Fill.{CellsLeft, left, flagsChecked, Filling, Cleared, FillOutcome, fill-refused, fill-done, fill-contradiction}
+use Rattle.fill.specs.Theorems.{SameKnown}
+use Rattle.fill.specs.Inner.Cells.{Sized}
 use Rattle.fill.proofs.Checks.{done-sized}
 use Rattle.fill.proofs.Marks.{valid-flag, one-missing, missing-one}
 
@@ -107,7 +104,7 @@ module _ (r : ℕ) (p : Primitive r) (sh : Shape) (valid : Valid sh) (xs : List 
         ⊎-elim
         (λ (d : differs sh v u w n ≡ true).
         let e : K n ≡ true = largest .every (union K (differs sh v u w)) support-stopping n l (union-right K (differs sh v u w) n d) in
-        f .left n w l b e ∙ sym (g .left n w l b e))
+        f .cleared n w l b e ∙ sym (g .cleared n w l b e))
         (differs-no sh v u w n) (true-or-false (differs sh v u w n))
 
   -- "There is at most one."
@@ -117,7 +114,7 @@ module _ (r : ℕ) (p : Primitive r) (sh : Shape) (valid : Valid sh) (xs : List 
 -- ---- the contract determines answer, cube and flags
 
 -- flags that are 0 or 1 and missing at the same cells are the same
-flags-ext : (fs gs : List ℕ) → flagsValid fs ≡ true → flagsValid gs ≡ true → length fs ≡ length gs
+pub flags-ext : (fs gs : List ℕ) → flagsValid fs ≡ true → flagsValid gs ≡ true → length fs ≡ length gs
     → ((n : ℕ) → n < length fs → missing fs n ≡ missing gs n) → fs ≡ gs
 flags-ext fs gs vf vg size same =
     ext-getD 0 fs gs size
@@ -138,7 +135,7 @@ filling-cong {r} {sh} {xs} {M} {K} {K'} {v} same f =
       size = f .size;
       bytes = f .bytes;
       known = f .known;
-      left = λ n w l b e. f .left n w l b (same n l ∙ e);
+      cleared = λ n w l b e. f .cleared n w l b (same n l ∙ e);
       lines = λ first stride len l z.
           f .lines first stride len l
           (onLine-cong K K' first stride len (λ i m. same (first + stride * i) (line-cell-lt sh first stride len i l m)) ∙ z);
@@ -151,53 +148,45 @@ cleared-unique {sh} {xs} {fs} {M} {v} {u} z a b =
     ⊎-elim (λ e. a .missing n w l m e ∙ sym (b .missing n w l m e)) (λ e. a .known n w l m e ∙ sym (b .known n w l m e)) (true-or-false (M n)))
 
 -- answer, cube and flags of two calls
-pub record Same (a b : FillAnswer) (xs ys fs gs : List ℕ) : Type 0 where
+pub record Same (a b : Value CellsLeft) (xs ys fs gs : List ℕ) : Type 0 where
   pub answer : a ≡ b
   pub cube : xs ≡ ys
   pub flags : fs ≡ gs
 
-pub done-refused : {a : Answer} {f : Refusal} → a ≡ Done → a ≡ Refused f → ⊥
-done-refused p q = let n : _≡_ {A = ℕ} 0 1 = cc in omega arith
+pub done-refused : {c : Checked Unit} {n : ℕ} → c ≡ passes tt → c ≡ fails n → ⊥
+done-refused {c} {n} p q = passes-fails tt n (sym p ∙ q)
 
-filled-same : (sh : Shape) (xs fs ys gs zs hs : List ℕ) → Sized sh xs fs → length gs ≡ length fs → length hs ≡ length fs → flagsValid gs ≡ true
-    → flagsValid hs ≡ true → Largest (cells sh) (IsLine sh) (missing fs) (missing gs) → Largest (cells sh) (IsLine sh) (missing fs) (missing hs)
-    → Filling reduction sh xs (missing fs) (missing gs) ys → Filling reduction sh xs (missing fs) (missing hs) zs
-    → Same (Left (number (missing gs) (cells sh))) (Left (number (missing hs) (cells sh))) ys zs gs hs
-filled-same sh xs fs ys gs zs hs z sg sh' vg vh k k' u u' =
-    record {
-      answer = ap (λ (q : List ℕ). Left (number (missing q) (cells sh))) same;
-      cube = filling-unique reduction primitive sh (z .valid) xs (missing fs) (missing hs) k' ys zs (filling-cong (largest-unique k k') u) u' (z .bytes);
-      flags = same;
-    }
-  where
-    same : gs ≡ hs
-    same = flags-ext gs hs vg vh (sg ∙ sym sh') (λ n l. largest-unique k k' n (omega (arith, z .flags)))
+module _ {r : ℕ} (p : Primitive r) where
+  filled-same : (sh : Shape) (xs fs ys gs zs hs : List ℕ) → Sized sh xs fs → length gs ≡ length fs → length hs ≡ length fs → flagsValid gs ≡ true
+      → flagsValid hs ≡ true → Largest (cells sh) (IsLine sh) (missing fs) (missing gs) → Largest (cells sh) (IsLine sh) (missing fs) (missing hs)
+      → Filling r sh xs (missing fs) (missing gs) ys → Filling r sh xs (missing fs) (missing hs) zs
+      → Same (gives (left (number (missing gs) (cells sh)))) (gives (left (number (missing hs) (cells sh)))) ys zs gs hs
+  filled-same sh xs fs ys gs zs hs z sg sh' vg vh k k' u u' =
+      record {
+        answer = ap (λ (q : List ℕ). gives (left (number (missing q) (cells sh)))) same;
+        cube = filling-unique r p sh (z .valid) xs (missing fs) (missing hs) k' ys zs (filling-cong (largest-unique k k') u) u' (z .bytes);
+        flags = same;
+      }
+    where
+      same : gs ≡ hs
+      same = flags-ext gs hs vg vh (sg ∙ sym sh') (λ n l. largest-unique k k' n (omega (arith, z .flags)))
 
-pub outcome-determined : {sh : Shape} {xs fs ys gs zs hs : List ℕ} {a b : FillAnswer} → FillOutcome sh xs fs ys gs a → FillOutcome sh xs fs zs hs b
-    → Same a b ys zs gs hs
-outcome-determined (FillOutcome.refused f p x g) (FillOutcome.refused f' p' x' g') =
-    let same : Refused f ≡ Refused f' = sym p ∙ p' in
-    let e : f ≡ f' = cc in
-    record { answer = ap Impossible e; cube = x ∙ sym x'; flags = g ∙ sym g' }
-outcome-determined (FillOutcome.refused f p x g) (FillOutcome.filled d s v k u) = absurd (done-refused d p)
-outcome-determined (FillOutcome.refused f p x g) (FillOutcome.contradiction d k l n c e) = absurd (done-refused d p)
-outcome-determined (FillOutcome.filled d s v k u) (FillOutcome.refused f p x g) = absurd (done-refused d p)
-outcome-determined {sh} {xs} {fs} {ys} {gs} {zs} {hs} (FillOutcome.filled d s v k u) (FillOutcome.filled d' s' v' k' u') =
-    filled-same sh xs fs ys gs zs hs (done-sized sh xs fs d) s s' v v' k k' u u'
-outcome-determined (FillOutcome.filled d s v k u) (FillOutcome.contradiction d' k' l' n' c' e') =
-    absurd (n' _ (filling-cong (largest-unique k l') u))
-outcome-determined (FillOutcome.contradiction d k l n c e) (FillOutcome.refused f p x g) = absurd (done-refused d p)
-outcome-determined (FillOutcome.contradiction d k l n c e) (FillOutcome.filled d' s' v' k' u') =
-    absurd (n _ (filling-cong (largest-unique k' l) u'))
-outcome-determined {sh} {xs} {fs} (FillOutcome.contradiction d k l n c e) (FillOutcome.contradiction d' k' l' n' c' e') =
-    record { answer = refl; cube = cleared-unique (done-sized sh xs fs d) c c'; flags = e ∙ sym e' }
+  pub outcome-determined : {sh : Shape} {xs fs ys gs zs hs : List ℕ} {a b : Value CellsLeft}
+      → FillOutcome r sh xs fs ys gs a → FillOutcome r sh xs fs zs hs b → Same a b ys zs gs hs
+  outcome-determined (fill-refused n e x g) (fill-refused m f x' g') =
+      record { answer = ap refused (fails-injective n m (sym e ∙ f)); cube = x ∙ sym x'; flags = g ∙ sym g' }
+  outcome-determined (fill-refused n e x g) (fill-done d s v k u) = absurd (done-refused d e)
+  outcome-determined (fill-refused n e x g) (fill-contradiction d k l c z h) = absurd (done-refused d e)
+  outcome-determined (fill-done d s v k u) (fill-refused n e x g) = absurd (done-refused d e)
+  outcome-determined {sh} {xs} {fs} {ys} {gs} {zs} {hs} (fill-done d s v k u) (fill-done d' s' v' k' u') =
+      filled-same sh xs fs ys gs zs hs (done-sized sh xs fs d) s s' v v' k k' u u'
+  outcome-determined (fill-done d s v k u) (fill-contradiction d' k' l' n' c' e') = absurd (n' _ (filling-cong (largest-unique k l') u))
+  outcome-determined (fill-contradiction d k l n c e) (fill-refused m f x g) = absurd (done-refused d f)
+  outcome-determined (fill-contradiction d k l n c e) (fill-done d' s' v' k' u') = absurd (n _ (filling-cong (largest-unique k' l) u'))
+  outcome-determined {sh} {xs} {fs} (fill-contradiction d k l n c e) (fill-contradiction d' k' l' n' c' e') =
+      record { answer = refl; cube = cleared-unique (done-sized sh xs fs d) c c'; flags = e ∙ sym e' }
 
 -- ---- "Bytes of missing cells are not read."
-
--- two cubes of one length whose known cells have the same bytes
-pub record SameKnown (sh : Shape) (M : ℕ → Bool) (xs ys : List ℕ) : Type 0 where
-  pub size : length xs ≡ length ys
-  pub known : (n w : ℕ) → n < cells sh → w < sh .w → M n ≡ false → layer sh xs w n ≡ layer sh ys w n
 
 filling-known : {r : ℕ} {sh : Shape} {xs ys : List ℕ} {M K : ℕ → Bool} {v : List ℕ} → SameKnown sh M xs ys → Filling r sh xs M K v
     → Filling r sh ys M K v
@@ -206,17 +195,16 @@ filling-known s f =
       size = f .size ∙ s .size;
       bytes = f .bytes;
       known = λ n w l b e. f .known n w l b e ∙ s .known n w l b e;
-      left = f .left;
+      cleared = f .cleared;
       lines = f .lines;
     }
 
 -- what a call that passes the checks answers and leaves does not depend on the bytes of missing cells
-pub outcome-known : {sh : Shape} {xs ys fs zs gs : List ℕ} {answer : FillAnswer} → SameKnown sh (missing fs) xs ys
-    → flagsChecked (measured sh) (length xs) fs ≡ Done → FillOutcome sh xs fs zs gs answer → FillOutcome sh ys fs zs gs answer
-outcome-known s done (FillOutcome.refused f p x g) = absurd (done-refused done p)
-outcome-known s done (FillOutcome.filled d t v k u) =
-    FillOutcome.filled (rw (← (s .size)) d) t v k (filling-known s u)
-outcome-known {sh} {xs} {ys} {fs} s done (FillOutcome.contradiction d K l n c e) =
-    FillOutcome.contradiction (rw (← (s .size)) d) K l
+pub outcome-known : {r : ℕ} {sh : Shape} {xs ys fs zs gs : List ℕ} {value : Value CellsLeft} → SameKnown sh (missing fs) xs ys
+    → flagsChecked sh (length xs) fs ≡ passes tt → FillOutcome r sh xs fs zs gs value → FillOutcome r sh ys fs zs gs value
+outcome-known s done (fill-refused n e x g) = absurd (done-refused done e)
+outcome-known s done (fill-done d t v k u) = fill-done (rw (← (s .size)) d) t v k (filling-known s u)
+outcome-known {r} {sh} {xs} {ys} {fs} s done (fill-contradiction d K l n c e) =
+    fill-contradiction (rw (← (s .size)) d) K l
     (λ v f. n v (filling-known (record { size = sym (s .size); known = λ m w q b h. sym (s .known m w q b h) }) f))
     (record { size = c .size ∙ s .size; known = λ m w q b h. c .known m w q b h ∙ s .known m w q b h; missing = c .missing }) e

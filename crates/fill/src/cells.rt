@@ -1,12 +1,11 @@
 // Flags and cells. Within a call a cell that was filled has the private flag 3; 2 stays free.
-use cube::Shape;
+use shape::Shape;
 ghost use mathlib.Core.Path.{_≡_};
-ghost use Prim.Native.Nat.{_+_, _≤_};
 ghost use lib.ListN.{length};
 ghost use Rattle.stopping.specs.Stopping.{number};
-ghost use Rattle.cube.specs.Flags.{missing};
+ghost use Rattle.shape.specs.Flags.{missing};
 ghost use Rattle.fill.specs.Fill.{Cleared};
-ghost use Rattle.fill.specs.State.{filled, Sized, Zeroed, Remarked};
+ghost use Rattle.fill.specs.Inner.Cells.{filled, Sized, Remarked};
 
 // Clears every missing cell: right for each outcome that is left.
 pub(crate) fn clear_missing(cube: &mut [u8], flags: &[u8], sh: Shape)
@@ -17,7 +16,7 @@ pub(crate) fn clear_missing(cube: &mut [u8], flags: &[u8], sh: Shape)
     let mut n = 0;
     while n < flags.len() {
         if flags[n] == 1 {
-            clear_cell(cube, n * w, w);
+            span::set(cube, n * w, w, 0);
         }
         n += 1;
     }
@@ -53,19 +52,8 @@ pub(crate) fn restore(cube: &mut [u8], flags: &mut [u8], sh: Shape)
     while n < flags.len() {
         if flags[n] == 3 {
             flags[n] = 1;
-            clear_cell(cube, n * w, w);
+            span::set(cube, n * w, w, 0);
         }
         n += 1;
-    }
-}
-
-fn clear_cell(cube: &mut [u8], at: usize, w: usize)
-    requires { ⌜ at + w ≤ length (now cube) ⌝ }
-    ensures { λ _. ⌜ Zeroed at w (now (cube .entry)) (now (cube .exit)) ⌝ }
-{
-    let mut t = 0;
-    while t < w {
-        cube[at + t] = 0;
-        t += 1;
     }
 }

@@ -1,15 +1,17 @@
 // Peeling: sweeps over axis 1, 2, 3 and again, until three axes in succession fill nothing.
-use cube::Line;
-use cube::LineAnswer;
-use cube::Shape;
 use line::Run;
+use shape::Line;
+use shape::LineAnswer;
+use shape::Shape;
 ghost use Prim.Native.Nat.{_≤_};
-ghost use Rattle.cube.specs.Shapes.{IsLine};
-ghost use Rattle.cube.specs.Flags.{missing};
-ghost use Rattle.fill.specs.State.{Sized, Places, Scanned, Stops, AxisStops, Filled, Peeled};
+ghost use Rattle.shape.specs.Shapes.{IsLine};
+ghost use Rattle.shape.specs.Flags.{missing};
+ghost use Rattle.field.specs.Field.{reduction};
+ghost use Rattle.fill.specs.Inner.Cells.{Sized};
+ghost use Rattle.fill.specs.Inner.Peel.{Places, Scanned, Stops, AxisStops, Filled, Peeled};
 
 // The missing cells of a line: how many, and the first and the last place.
-pub(crate) struct Erasures {
+pub(crate) struct MissingPlaces {
     pub count: usize,
     pub first: usize,
     pub last: usize,
@@ -17,7 +19,7 @@ pub(crate) struct Erasures {
 
 pub(crate) fn peel(cube: &mut [u8], flags: &mut [u8], sh: Shape)
     requires { ⌜ Sized sh (now cube) (now flags) ⌝ }
-    ensures { λ _. ⌜ Peeled sh (now (cube .entry)) (now (flags .entry)) (now (cube .exit)) (now (flags .exit)) ⌝ }
+    ensures { λ _. ⌜ Peeled reduction sh (now (cube .entry)) (now (flags .entry)) (now (cube .exit)) (now (flags .exit)) ⌝ }
 {
     let mut axis = 1;
     let mut idle: usize = 0;
@@ -36,12 +38,12 @@ pub(crate) fn peel(cube: &mut [u8], flags: &mut [u8], sh: Shape)
 fn sweep(cube: &mut [u8], flags: &mut [u8], sh: Shape, axis: usize) -> usize
     requires { ⌜ Sized sh (now cube) (now flags) ⌝ }
     requires { ⌜ (1 ≤ axis) × (axis ≤ 3) ⌝ }
-    ensures { λ r. ⌜ Filled sh (λ fs. AxisStops sh fs axis) (now (cube .entry)) (now (flags .entry)) (now (cube .exit)) (now (flags .exit)) r ⌝ }
+    ensures { λ r. ⌜ Filled reduction sh (λ fs. AxisStops sh fs axis) (now (cube .entry)) (now (flags .entry)) (now (cube .exit)) (now (flags .exit)) r ⌝ }
 {
     let mut filled = 0;
     let mut m = 0;
     loop {
-        let found = cube::axis_line(sh, axis, m);
+        let found = shape::axis_line(sh, axis, m);
         let LineAnswer::Found(line) = found else {
             return filled;
         };
@@ -54,7 +56,7 @@ fn sweep(cube: &mut [u8], flags: &mut [u8], sh: Shape, axis: usize) -> usize
 fn fill_line(cube: &mut [u8], flags: &mut [u8], sh: Shape, line: Line) -> usize
     requires { ⌜ Sized sh (now cube) (now flags) ⌝ }
     requires { ⌜ IsLine sh (line .first) (line .stride) (line .len) ⌝ }
-    ensures { λ r. ⌜ Filled sh (λ fs. Stops fs (line .first) (line .stride) (line .len)) (now (cube .entry)) (now (flags .entry)) (now (cube .exit)) (now (flags .exit)) r ⌝ }
+    ensures { λ r. ⌜ Filled reduction sh (λ fs. Stops fs (line .first) (line .stride) (line .len)) (now (cube .entry)) (now (flags .entry)) (now (cube .exit)) (now (flags .exit)) r ⌝ }
 {
     let e = scan(flags, line);
     let count = e.count;
@@ -73,20 +75,22 @@ fn fill_line(cube: &mut [u8], flags: &mut [u8], sh: Shape, line: Line) -> usize
         len: len,
         width: w,
     };
-    line::solve(cube, run, line::erasures_at(j as u8, k as u8));
+    let reduction = field::reduction();
+    let erasures = line::erasures_at(reduction, j as u8, k as u8);
+    line::solve(cube, reduction, run, erasures);
     flags[first + stride * j] = 3;
     flags[first + stride * k] = 3;
     count
 }
 
-pub(crate) fn scan(flags: &[u8], line: Line) -> Erasures
+pub(crate) fn scan(flags: &[u8], line: Line) -> MissingPlaces
     requires { ⌜ Places (now flags) (line .first) (line .stride) (line .len) ⌝ }
     ensures { λ r. ⌜ Scanned (missing (now (flags .entry))) (line .first) (line .stride) (line .len) (r .count) (r .first) (r .last) ⌝ }
 {
     let first = line.first;
     let stride = line.stride;
     let len = line.len;
-    let mut e = Erasures {
+    let mut e = MissingPlaces {
         count: 0,
         first: 0,
         last: 0,

@@ -1,27 +1,34 @@
 // The last check: every line without a missing cell must be a codeword in every layer.
 use crate::peel;
-use cube::Line;
-use cube::LineAnswer;
-use cube::Shape;
+use cube::CubeCheck;
 use line::Run;
+use shape::Line;
+use shape::LineAnswer;
+use shape::Shape;
 ghost use Prim.Native.Nat.{_≤_};
-ghost use Rattle.cube.specs.Shapes.{IsLine};
-ghost use Rattle.fill.specs.State.{Sized, Right, AxisRight, AllRight, Decides};
+ghost use Rattle.shape.specs.Shapes.{IsLine};
+ghost use Rattle.field.specs.Field.{reduction};
+ghost use Rattle.span.specs.Decision.{Decides};
+ghost use Rattle.fill.specs.Inner.Cells.{Sized};
+ghost use Rattle.fill.specs.Inner.Verify.{Right, AxisRight, AllRight};
 
 // Where no cell is missing every line counts, and the check of a whole cube is faster: it takes the lines in wide runs.
 pub(crate) fn verify(cube: &[u8], flags: &[u8], sh: Shape) -> bool
     requires { ⌜ Sized sh (now cube) (now flags) ⌝ }
-    ensures { λ r. ⌜ Decides (AllRight sh (now (cube .entry)) (now (flags .entry))) r ⌝ }
+    ensures { λ r. ⌜ Decides (AllRight reduction sh (now (cube .entry)) (now (flags .entry))) r ⌝ }
 {
-    if cube::flags::none_missing(flags) {
-        return cube::is_code_cube(cube, sh);
+    if !shape::flags::none_missing(flags) {
+        return verify_lines(cube, flags, sh);
     }
-    verify_lines(cube, flags, sh)
+    match cube::is_code_cube(cube, sh) {
+        CubeCheck::Code(code) => code,
+        CubeCheck::Refused(_) => false,
+    }
 }
 
 fn verify_lines(cube: &[u8], flags: &[u8], sh: Shape) -> bool
     requires { ⌜ Sized sh (now cube) (now flags) ⌝ }
-    ensures { λ r. ⌜ Decides (AllRight sh (now (cube .entry)) (now (flags .entry))) r ⌝ }
+    ensures { λ r. ⌜ Decides (AllRight reduction sh (now (cube .entry)) (now (flags .entry))) r ⌝ }
 {
     if !verify_axis(cube, flags, sh, 1) {
         return false;
@@ -35,11 +42,11 @@ fn verify_lines(cube: &[u8], flags: &[u8], sh: Shape) -> bool
 fn verify_axis(cube: &[u8], flags: &[u8], sh: Shape, axis: usize) -> bool
     requires { ⌜ Sized sh (now cube) (now flags) ⌝ }
     requires { ⌜ (1 ≤ axis) × (axis ≤ 3) ⌝ }
-    ensures { λ r. ⌜ Decides (AxisRight sh (now (cube .entry)) (now (flags .entry)) axis) r ⌝ }
+    ensures { λ r. ⌜ Decides (AxisRight reduction sh (now (cube .entry)) (now (flags .entry)) axis) r ⌝ }
 {
     let mut m = 0;
     loop {
-        let found = cube::axis_line(sh, axis, m);
+        let found = shape::axis_line(sh, axis, m);
         let LineAnswer::Found(line) = found else {
             return true;
         };
@@ -53,7 +60,7 @@ fn verify_axis(cube: &[u8], flags: &[u8], sh: Shape, axis: usize) -> bool
 fn verify_line(cube: &[u8], flags: &[u8], sh: Shape, line: Line) -> bool
     requires { ⌜ Sized sh (now cube) (now flags) ⌝ }
     requires { ⌜ IsLine sh (line .first) (line .stride) (line .len) ⌝ }
-    ensures { λ r. ⌜ Decides (Right sh (now (cube .entry)) (now (flags .entry)) (line .first) (line .stride) (line .len)) r ⌝ }
+    ensures { λ r. ⌜ Decides (Right reduction sh (now (cube .entry)) (now (flags .entry)) (line .first) (line .stride) (line .len)) r ⌝ }
 {
     let e = peel::scan(flags, line);
     if e.count != 0 {
@@ -66,5 +73,5 @@ fn verify_line(cube: &[u8], flags: &[u8], sh: Shape, line: Line) -> bool
         len: line.len,
         width: w,
     };
-    line::codewords(cube, run)
+    line::codewords(cube, field::reduction(), run)
 }

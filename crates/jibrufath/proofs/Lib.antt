@@ -1,3 +1,7 @@
--- Why the exported answers fit a machine word: the sizes of a shape (`SizeBounds`), and the counts that come with an ending (`CountBounds`).
-mod SizeBounds
-mod CountBounds
+-- Why the crate `jibrufath` meets its contracts: words (`Words`), what comes with a number (`Places`), the receiver's endings as words
+-- (`Endings`), and sizes fit a word (`SizeBounds`). `Told` shows that a word tells its value.
+pub mod Words
+pub mod Told
+pub mod Places
+pub mod Endings
+pub mod SizeBounds

@@ -1,44 +1,58 @@
--- The answers about sizes: those of a shape that passes its checks, times 256, fit a machine word.
-use mathlib.Core.Path.{_≡_}
-use Prim.Native.Nat.{ℕ, _+_, _*_, _≤_}
-use Rattle.cube.specs.declared.Shape.{Shape}
-use Rattle.cube.specs.declared.Sizes.{Sizes}
-use Rattle.cube.specs.declared.Refusal.{Refusal}
-use Rattle.cube.specs.declared.Measured.the-variants.{Fits, Misfit}
-use Rattle.cube.specs.Refusals.{refusalNumber}
-use Rattle.cube.specs.Shapes.{cells, capacity, sizes, measured}
-use Rattle.cube.proofs.Valid.{measured-fits, volume-le, bytes-le}
-use Rattle.pack.proofs.Counts.{data-volume-le}
-use Rattle.writer.proofs.Sections.{packSize-le}
-use Rattle.jibrufath.specs.Sizes.{sizeNumber, sizeAnswer}
+-- Sizes of a shape that passes its checks, times 256, fit a machine word.
+use mathlib.Core.Path.{_≡_, sym}
+use Prim.Native.Nat.{ℕ, _+_, _≤_}
+use native.Mathlib.Nat.{mul-le-mul}
+use native.Mathlib.Omega.{arith}
+use Rattle.answer.specs.declared.Refusal.{Refusal}
+use Rattle.answer.specs.Values.{passes, checked, refusal}
+use Rattle.answer.proofs.Values.{passes-injective, checked-passes, then-passed}
+use Rattle.shape.specs.declared.Shape.{Shape}
+use Rattle.shape.specs.declared.Sizes.{Sizes}
+use Rattle.shape.specs.Shapes.{Valid, cells, capacity, sizes, shapeChecked}
+use Rattle.shape.proofs.Valid.{shape-passed, data-length-le, volume-le, bytes-le}
+use Rattle.pack.specs.declared.PackSize.{PackSize}
+use Rattle.pack.specs.declared.PackSize.the-variants.{Bytes, Refused}
+use Rattle.pack.specs.Packs.{packSize}
+use Rattle.pack.specs.Writing.{sizeChecked, sizeValue}
 
-pub record Bounded (sh : Shape) (z : Sizes) : Type 0 where
-  pub same : z ≡ sizes sh
+pub record Bounded (z : Sizes) : Type 0 where
   pub cells-le : z .cells ≤ 16581375
   pub bytes-le : z .bytes ≤ 268435456
   pub capacity-le : z .capacity ≤ 16979328000
-  pub width-le : sh .w ≤ 1024
-  pub packets-le : z .cells * (3 + sh .w) ≤ 17029072125
 
-pub sizes-bounded : (sh : Shape) (z : Sizes) → measured sh ≡ Fits z → Bounded sh z
+pub sizes-bounded : (sh : Shape) (z : Sizes) → shapeChecked sh ≡ passes z → Bounded z
 unfolding sizes cells capacity
 sizes-bounded sh z e =
-    let (v, same) = measured-fits sh z e in
-    let n : cells sh ≤ 16581375 = volume-le _ _ _ (v .l1-high) (v .l2-high) (v .l3-high) in
+    let (v, same) = shape-passed sh z e in
+    let volume = volume-le _ _ _ (data-length-le _ (v .l1-high)) (data-length-le _ (v .l2-high)) (data-length-le _ (v .l3-high)) in
     record {
-      same = same;
-      cells-le = rw same n;
+      cells-le = rw same (volume-le _ _ _ (v .l1-high) (v .l2-high) (v .l3-high));
       bytes-le = rw same (v .volume);
-      capacity-le = rw same (bytes-le _ _ (v .w-high) (data-volume-le sh v));
-      width-le = v .w-high;
-      packets-le = rw same (packSize-le _ _ n (v .w-high));
+      capacity-le = rw same (bytes-le _ _ (v .w-high) volume);
     }
 
-module _ (size : Shape → ℕ) (sh : Shape) (n : ℕ) where
-  pub size-fits : (z : Sizes) → measured sh ≡ Fits z → n ≡ size sh → n * 256 ≡ sizeAnswer size sh
-  unfolding sizeAnswer sizeNumber
-  size-fits z e same = rw (e, same)
+-- ---- the size of a pack
 
-  pub size-misfits : (f : Refusal) → measured sh ≡ Misfit f → n ≡ refusalNumber f → n ≡ sizeAnswer size sh
-  unfolding sizeAnswer sizeNumber
-  size-misfits f e same = rw (e, same)
+pub size-told : (sh : Shape) (r : PackSize) (n : ℕ) → sizeValue r ≡ checked (sizeChecked sh) → r ≡ Bytes n → sizeChecked sh ≡ passes n
+unfolding sizeValue
+size-told sh r n e q = checked-passes (sizeChecked sh) n (rw q at e)
+
+pub size-refused : (sh : Shape) (r : PackSize) (f : Refusal) → sizeValue r ≡ checked (sizeChecked sh) → r ≡ Refused f
+    → refusal f ≡ checked (sizeChecked sh)
+unfolding sizeValue
+size-refused sh r f e q = rw q at e
+
+-- a size was told of a valid shape, and is its pack's
+size-valid : (sh : Shape) (n : ℕ) → sizeChecked sh ≡ passes n → Valid sh × (n ≡ packSize sh)
+unfolding sizeChecked
+size-valid sh n e =
+    let (z, passed, same) = then-passed (shapeChecked sh) _ n e in
+    (shape-passed sh z passed .0, sym (passes-injective _ _ same))
+
+pub pack-size-le : (sh : Shape) (n : ℕ) → sizeChecked sh ≡ passes n → n ≤ 17029072142
+unfolding packSize cells
+pack-size-le sh n e =
+    let (v, same) = size-valid sh n e in
+    let few = volume-le _ _ _ (v .l1-high) (v .l2-high) (v .l3-high) in
+    let w : 3 + sh .w ≤ 1027 = omega (arith, v .w-high) in
+    omega (arith, mul-le-mul few w)

@@ -1,50 +1,41 @@
--- The exported calls: shapes as four numbers, answers as one. An answer is the refusal's number in document 01's table, 0 for none, plus 256
--- times the count that comes with it.
+-- The exported calls: a shape as four numbers, an answer as one word of 64 bits.
 use mathlib.Core.Path.{_≡_}
-use mathlib.Core.List.{List}
-use Prim.Native.Nat.{ℕ, _*_}
-use Rattle.cube.specs.declared.Shape.{Shape}
-use Rattle.cube.specs.declared.Answer.{Answer}
-use Rattle.cube.specs.declared.Answer.the-variants.{Done, Refused}
-use Rattle.cube.specs.Refusals.{refusalNumber}
-use Rattle.cube.specs.Calls.{EncodeOutcome, ExtractOutcome}
-use Rattle.fill.specs.declared.FillAnswer.{FillAnswer}
-use Rattle.fill.specs.declared.FillAnswer.the-variants.{Left, Impossible}
-use Rattle.fill.specs.Fill.{FillOutcome}
-use Rattle.mend.specs.Mend.{PassOutcome, CorrectOutcome}
+use mathlib.Core.Bool.{Bool, true, false}
+use Prim.Native.Nat.{ℕ, _+_, _*_}
+use Rattle.answer.specs.Values.{Value, gives, refused, refused-at, numberOf}
+use Rattle.shape.specs.declared.Shape.{Shape}
+use Rattle.fill.specs.Fill.{CellsLeft, left}
 
 unfoldable pub shape : ℕ → ℕ → ℕ → ℕ → Shape
 shape l1 l2 l3 w = record { l1 = l1; l2 = l2; l3 = l3; w = w }
 
-unfoldable pub answerNumber : Answer → ℕ
-answerNumber Done = 0
-answerNumber (Refused f) = refusalNumber f
+-- what comes with the number: the count that a result carries, or the place that a refusal names, 0 where it names none
+unfoldable pub beside : {A : Type 0} → (A → ℕ) → Value A → ℕ
+beside count (gives a) = count a
+beside count (refused n) = 0
+beside count (refused-at n i) = i
 
-unfoldable pub fillNumber : FillAnswer → ℕ
-fillNumber (Left n) = n * 256
-fillNumber (Impossible f) = refusalNumber f
+-- The word: the number in document 01's table in the low byte, 0 with a result, and above it what comes with the number.
+unfoldable pub packed : {A : Type 0} → (A → ℕ) → Value A → ℕ
+packed count v = numberOf v + 256 * beside count v
 
-pub record EncodeExport (sh : Shape) (ds before after : List ℕ) (number : ℕ) : Type 0 where
-  pub answer : Answer
-  pub outcome : EncodeOutcome sh ds before after answer
-  pub numbered : number ≡ answerNumber answer
+-- An exported call: its word packs a value with which the library's call has ended.
+pub record Exported {A : Type 0} (count : A → ℕ) (Outcome : Value A → Type 0) (word : ℕ) : Type 0 where
+  pub value : Value A
+  pub outcome : Outcome value
+  pub word-packed : word ≡ packed count value
 
-pub record ExtractExport (sh : Shape) (xs before after : List ℕ) (number : ℕ) : Type 0 where
-  pub answer : Answer
-  pub outcome : ExtractOutcome sh xs before after answer
-  pub numbered : number ≡ answerNumber answer
+-- ---- the counts of the calls
 
-pub record FillExport (sh : Shape) (xs fs xs′ fs′ : List ℕ) (number : ℕ) : Type 0 where
-  pub answer : FillAnswer
-  pub outcome : FillOutcome sh xs fs xs′ fs′ answer
-  pub numbered : number ≡ fillNumber answer
+-- none
+unfoldable pub uncounted : {A : Type 0} → A → ℕ
+uncounted a = 0
 
-pub record PassExport (sh : Shape) (axis : ℕ) (before after : List ℕ) (number : ℕ) : Type 0 where
-  pub answer : Answer
-  pub outcome : PassOutcome sh axis before after answer
-  pub numbered : number ≡ answerNumber answer
+-- whether the bytes are a code cube
+unfoldable pub truth : Bool → ℕ
+truth true = 1
+truth false = 0
 
-pub record MendExport (sh : Shape) (xs fs before after : List ℕ) (number : ℕ) : Type 0 where
-  pub answer : Answer
-  pub outcome : CorrectOutcome sh xs fs before after answer
-  pub numbered : number ≡ answerNumber answer
+-- "the answer carries K's size"
+unfoldable pub cellsLeft : CellsLeft → ℕ
+cellsLeft (left k) = k

@@ -1,4 +1,5 @@
--- What a reader of the crate `jibrufath` must believe.
+-- What a reader of the crate `jibrufath` must believe; and, in `Inner`, what its own functions promise each other.
 pub mod Exports
 pub mod Packs
-pub mod Sizes
+pub mod Needs
+pub mod Inner

@@ -8,13 +8,13 @@ use native.Mathlib.Decide.{ℕ-discrete, decLt}
 use native.Mathlib.Omega.{arith}
 use lib.ListN.{length, getD, set, length-set}
 use lib.Seq.{getD-set-same, getD-set-other}
-use Rattle.field.specs.Field.{add, xtime, mul, pow, Primitive}
+use Rattle.field.specs.Field.{add, xtime, mul, pow}
 use Rattle.field.proofs.Multiplication.{mul-one-l, xtime-mul-l}
 use Rattle.field.proofs.Power.{pow-zero, pow-suc}
 use Rattle.line.specs.declared.Run.{Run}
-use Rattle.line.specs.Line.{syndrome0, syndrome1, Codeword, ErrorAt, corrected}
+use Rattle.line.specs.Line.{syndrome0, syndrome1, Codeword, ErrorAt, errorPlace, corrected}
 use Rattle.line.specs.Run.{Inside, Off, lineAt, Corrected}
-use Rattle.line.specs.Block.{part}
+use Rattle.line.specs.Inner.Block.{part}
 use Rattle.line.proofs.Error.{corrected-codeword-same, corrected-at, corrected-none, corrected-off}
 use Rattle.line.proofs.Geometry.{stride-below}
 use Rattle.line.proofs.Parts.{Changed, line-part}
@@ -100,30 +100,30 @@ module _ (r : ℕ) (run : Run) (t : ℕ) (before : List ℕ) where
         (λ i l. sym (corrected-none r (run .len) (lineAt before run t) (λ j. rw (← e0, ← e1) (never j)) i l))
 
     pub corrected-found :
-        (j : ℕ) → Primitive r → Inside run (length before) → t < run .width → ((p : ℕ) → getD before p 0 < 256) →
-        ErrorAt r v0 v1 (run .len) j →
-        Corrected r (part run t 1) before
-        (set before (run .first + run .stride * j + t) (add (getD before (run .first + run .stride * j + t) 0) v0))
+        (j byte : ℕ) → Inside run (length before) → t < run .width →
+        ErrorAt r v0 v1 (run .len) j × (errorPlace r v0 v1 (run .len) ≡ j) →
+        byte ≡ add (getD before (run .first + run .stride * j + t) 0) v0 →
+        Corrected r (part run t 1) before (set before (run .first + run .stride * j + t) byte)
     unfolding lineAt
-    corrected-found j prim h l bytes found =
+    corrected-found j byte h l (found, first) sum =
         single _ (length-set before at byte)
         (λ p o. getD-set-other before at p byte 0 (off-single run t j p (o j (found .below))))
         (λ i m. elim (ℕ-discrete i j) [
           | yes q ↦
-              rw q (getD-set-same before at byte 0 (omega (arith, h .fits j (found .below))) ∙ ap (add (getD before at 0)) e0
-              ∙ sym (corrected-at r (run .len) (lineAt before run t) j at-line))
+              rw q (getD-set-same before at byte 0 (omega (arith, h .fits j (found .below))) ∙ sum ∙ ap (add (getD before at 0)) e0
+              ∙ sym (corrected-at r (run .len) (lineAt before run t) j at-line at-first))
           | no q ↦
               getD-set-other before at _ byte 0
               (place-distinct (run .first) (run .stride) i j t (omega (arith, h .apart)) q)
-              ∙ sym (corrected-off r (run .len) (lineAt before run t) j prim (h .few-places) (λ k n. bytes _) at-line i m q)
+              ∙ sym (corrected-off r (run .len) (lineAt before run t) i (λ e. q (sym e ∙ at-first)))
         ])
       where
         at : ℕ
         at = run .first + run .stride * j + t
 
-        byte : ℕ
-        byte = add (getD before (run .first + run .stride * j + t) 0) v0
-
         at-line :
             ErrorAt r (syndrome0 (lineAt before run t) (run .len)) (syndrome1 r (lineAt before run t) (run .len)) (run .len) j
         at-line = rw (← e0, ← e1) found
+
+        at-first : errorPlace r (syndrome0 (lineAt before run t) (run .len)) (syndrome1 r (lineAt before run t) (run .len)) (run .len) ≡ j
+        at-first = rw (← e0, ← e1) first

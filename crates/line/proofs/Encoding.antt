@@ -1,6 +1,5 @@
 -- Encoded lines: the data places are copied and summed place by place, both parity places are solved as erasures, strip after strip.
-use mathlib.Core.Path.{_≡_, refl, sym, ap, ap₂, subst, fun-ext, _∙_}
-use mathlib.Core.Bool.{true, false, false≢true, true≢false}
+use mathlib.Core.Path.{_≡_, refl, sym, ap, subst, fun-ext, _∙_}
 use mathlib.Core.List.{List}
 use mathlib.Core.Logic.{_≢_, inl}
 use Prim.Native.Nat.{ℕ, _+_, _-_, _*_, _≤_, _<_}
@@ -8,18 +7,19 @@ use native.Mathlib.Decide.{ℕ-discrete, decLt}
 use native.Mathlib.Omega.{arith}
 use lib.ListN.{length, getD}
 use Rattle.span.specs.Span.{Copied}
-use Rattle.span.proofs.Copying.{copied-beside}
-use Rattle.field.specs.Field.{Primitive}
+use Rattle.span.proofs.Keeping.{kept-beside}
 use Rattle.line.specs.declared.Run.{Run}
 use Rattle.line.specs.declared.Erasures.{Erasures}
-use Rattle.line.specs.Line.{Codeword, syndrome0, syndrome1}
-use Rattle.line.specs.Run.{lineAt, Inside, Off, Written, Solved, erasuresAt, Feeds, Encoded, EncodeOutcome}
-use Rattle.line.specs.Block.{part, front, places, Syndromes, Combined, ToEnd, Placed}
+use Rattle.line.specs.Line.{syndrome0, syndrome1, withParity}
+use Rattle.line.specs.Run.{lineAt, Inside, Off, ErasuresWritten, erasuresAt, Feeds, Encoded}
+use Rattle.line.specs.Inner.Block.{part, front, places, Syndromes, Combined, ToEnd}
+use Rattle.line.specs.Inner.Encoder.{DataPlaced}
 use Rattle.line.proofs.Syndrome.{syndrome0-cong, syndrome1-cong}
+use Rattle.line.proofs.Erasure.{completed-cong}
 use Rattle.line.proofs.Geometry.{off-place}
-use Rattle.line.proofs.Runs.{written-solved, solved-codewords}
+use Rattle.line.proofs.Runs.{Solved, written-solved, solved-lines}
 use Rattle.line.proofs.Solving.{combining-end}
-use Rattle.line.proofs.Parts.{off-first, off-next, part-inside, inside-size, line-part, off-part}
+use Rattle.line.proofs.Parts.{off-first, off-next, part-inside, line-part, off-part}
 
 -- ---- places copied
 
@@ -37,7 +37,7 @@ between-none lo hi from to ds l h =
 
 pub between-all :
     {lo hi : ℕ} {from to : Run} {ds before after : List ℕ} → Between lo hi from to ds before after → lo ≡ 0 →
-    hi ≡ from .len → Placed from to ds before after
+    hi ≡ from .len → DataPlaced from to ds before after
 between-all b el eh =
     record {
       size = b .size;
@@ -53,9 +53,9 @@ pub between-more :
     ((i : ℕ) → low ≤ i → i < high → i ≢ j → (lo ≤ i) × (i < hi)) → Between low high from to ds before after
 between-more {lo} {hi} {from} {to} {ds} {before} {mid} {after} b low high j c apart ends other =
     record {
-      size = c .size ∙ b .size;
+      size = c .kept .size ∙ b .size;
       kept =
-          λ p o. copied-beside c p (unfold Off in o j (ends .0) (ends .1))
+          λ p o. kept-beside (c .kept) p (unfold Off in o j (ends .0) (ends .1))
           ∙ b .kept p (λ i l h. o i (omega arith) (omega arith));
       placed =
           λ t l i a h. elim (ℕ-discrete i j) [
@@ -65,7 +65,7 @@ between-more {lo} {hi} {from} {to} {ds} {before} {mid} {after} b low high j c ap
     }
   where
     same : (t : ℕ) → t < to .width → (i : ℕ) → i ≢ j → lineAt after to t i ≡ lineAt mid to t i
-    same t l i ne = unfold lineAt Off in copied-beside c _ (off-place to i j t apart (omega arith) ne)
+    same t l i ne = unfold lineAt Off in kept-beside (c .kept) _ (off-place to i j t apart (omega arith) ne)
 
 -- ---- codewords
 
@@ -93,7 +93,7 @@ module _ (r : ℕ) {n : ℕ} {from to : Run} {e : Erasures} (ee : e ≡ erasures
 
   -- the syndromes of what is copied are those of the places before the parity
   placed-syndromes :
-      {ds before mid s0 s1 : List ℕ} → Placed from to ds before mid → Syndromes r from ds s0 s1 →
+      {ds before mid s0 s1 : List ℕ} → DataPlaced from to ds before mid → Syndromes r from ds s0 s1 →
       Syndromes r (places to (e .j)) mid s0 s1
   unfolding places lineAt
   placed-syndromes {ds} {before} {mid} placed sy =
@@ -109,27 +109,28 @@ module _ (r : ℕ) {n : ℕ} {from to : Run} {e : Erasures} (ee : e ≡ erasures
       }
 
   pub combined-written :
-      {ds before mid after s0 s1 : List ℕ} → Placed from to ds before mid × Syndromes r from ds s0 s1 →
-      Combined r to e s0 s1 mid after → Written r to e mid after
+      {ds before mid after s0 s1 : List ℕ} → DataPlaced from to ds before mid × Syndromes r from ds s0 s1 →
+      Combined r to e s0 s1 mid after → ErasuresWritten r to e mid after
   combined-written {ds} {before} {mid} {after} {s0} {s1} h co =
       combining-end (parity-order .0) parity-end refl
       (record { s0 = s0; s1 = s1; syndromes = placed-syndromes (h .0) (h .1); combined = co })
 
 -- data places that are copied, and parity that is solved behind them
 pub written-encoded :
-    {r n : ℕ} {from to : Run} {e : Erasures} {ds before mid after : List ℕ} → Primitive r → Inside to (length before) →
-    Feeds from to n → e ≡ erasuresAt r (to .len - 2) (to .len - 1) → Placed from to ds before mid →
-    Written r to e mid after → Encoded r from to ds before after
-written-encoded {r} {n} {from} {to} {e} {ds} {before} {mid} {after} p inside feeds ee placed w =
+    {r n : ℕ} {from to : Run} {e : Erasures} {ds before mid after : List ℕ} → Inside to (length before) → Feeds from to n →
+    e ≡ erasuresAt r (to .len - 2) (to .len - 1) → DataPlaced from to ds before mid → ErasuresWritten r to e mid after →
+    Encoded r from to ds before after
+written-encoded {r} {n} {from} {to} {e} {ds} {before} {mid} {after} inside feeds ee placed w =
     record {
       size = solved .size ∙ placed .size;
       kept =
           λ q o. solved .kept q (o j (omega (arith, feeds .places))) (o k (omega (arith, feeds .places)))
           ∙ placed .kept q (λ i l. o i (omega (arith, feeds .places)));
-      placed = λ t h i l. same t h i l ∙ placed .placed t h i l;
-      codewords =
-          solved-codewords r to j k mid after p (inside-size inside (placed .size)) solved (omega (arith, feeds .places))
-          (omega (arith, feeds .places));
+      lines =
+          λ t h i l. solved-lines r to j k mid after solved (inside .apart) (omega arith) t h i
+          ∙ (unfold withParity in
+          completed-cong r (to .len) j k (lineAt mid to t) (lineAt ds from t)
+          (λ q m nj nk. placed .placed t h q (omega (arith, feeds .places))) i l);
     }
   where
     j : ℕ
@@ -139,19 +140,12 @@ written-encoded {r} {n} {from} {to} {e} {ds} {before} {mid} {after} p inside fee
     k = to .len - 1
 
     solved : Solved r to j k mid after
-    solved = written-solved (subst (λ (x : Erasures). Written r to x mid after) ee w)
-
-    same : (t : ℕ) → t < to .width → (i : ℕ) → i < from .len → lineAt after to t i ≡ lineAt mid to t i
-    same t h i l =
-        unfold lineAt in
-        solved .kept _
-        (off-place to i j t (inside .apart) (omega (arith, inside .apart)) (omega (arith, feeds .places)))
-        (off-place to i k t (inside .apart) (omega (arith, inside .apart)) (omega (arith, feeds .places)))
+    solved = written-solved (subst (λ (x : Erasures). ErasuresWritten r to x mid after) ee w)
 
 -- the parity places as the code names them: the last place, and the one before it
 pub parity-erasures :
-    {q r : ℕ} {e : Erasures} (n : ℕ) → q ≡ r → e ≡ erasuresAt r (n - 1 - 1) (n - 1) → e ≡ erasuresAt q (n - 2) (n - 1)
-parity-erasures n eq ee = ee ∙ ap₂ (λ (a b : ℕ). erasuresAt a b (n - 1)) (sym eq) (omega arith)
+    {e : Erasures} (r n : ℕ) → e ≡ erasuresAt r (n - 1 - 1) (n - 1) → e ≡ erasuresAt r (n - 2) (n - 1)
+parity-erasures r n ee = ee ∙ ap (λ (a : ℕ). erasuresAt r a (n - 1)) (omega arith)
 
 -- ---- strip after strip
 
@@ -185,14 +179,14 @@ module _ (from to : Run) (a : ℕ) {source target : Run} (es : source ≡ part f
   strip-places = ap (λ (x : Run). x .len) et
 
   pub strip-encoded :
-      {r n : ℕ} {e : Erasures} {ds before mid after s0 s1 : List ℕ} → Primitive r → Inside to (length before) →
+      {r n : ℕ} {e : Erasures} {ds before mid after s0 s1 : List ℕ} → Inside to (length before) →
       Feeds from to n → e ≡ erasuresAt r (to .len - 2) (to .len - 1) →
-      Placed source target ds before mid × Syndromes r source ds s0 s1 → Combined r target e s0 s1 mid after →
+      DataPlaced source target ds before mid × Syndromes r source ds s0 s1 → Combined r target e s0 s1 mid after →
       Encoded r (part from a 64) (part to a 64) ds before after
-  strip-encoded {r} {n} {e} {ds} {before} {mid} {after} p inside feeds ee placed co =
+  strip-encoded {r} {n} {e} {ds} {before} {mid} {after} inside feeds ee placed co =
       subst (λ (x : Run). Encoded r x (part to a 64) ds before after) es
       (subst (λ (x : Run). Encoded r source x ds before after) et
-      (written-encoded p (strip-inside inside) (strip-feeds feeds) own (placed .0)
+      (written-encoded (strip-inside inside) (strip-feeds feeds) own (placed .0)
       (combined-written r own (strip-feeds feeds) placed co)))
     where
       own : e ≡ erasuresAt r (target .len - 2) (target .len - 1)
@@ -205,8 +199,7 @@ encoded-none r from to ds l =
     record {
       size = refl;
       kept = λ p o. refl;
-      placed = λ t h. absurd (omega arith);
-      codewords = λ t h. absurd (omega arith);
+      lines = λ t h. absurd (omega arith);
     }
 
 pub encoded-all :
@@ -217,8 +210,7 @@ encoded-all h e =
     record {
       size = h .size;
       kept = λ p o. h .kept p (λ i l. rw e (o i l));
-      placed = λ t l. h .placed t (omega arith);
-      codewords = λ t l. h .codewords t (omega arith);
+      lines = λ t l. h .lines t (omega arith);
     }
 
 part-line :
@@ -234,30 +226,21 @@ module _ {r : ℕ} (from to : Run) (a b w : ℕ) {ds before mid after : List ℕ
   unfolding lineAt part
   before-strip t h = fun-ext (λ i. two .kept _ (λ k q. off-part to b w apart i k t (omega arith) (inl h)))
 
-  own-placed :
-      (t : ℕ) → t < w → (i : ℕ) → i < from .len →
-      lineAt after (part to b w) t i ≡ lineAt ds (part from b w) t i
+  own-lines :
+      (t : ℕ) → t < w → (i : ℕ) → i < to .len →
+      lineAt after (part to b w) t i ≡ withParity r (to .len) (lineAt ds (part from b w) t) i
   unfolding part
-  own-placed = two .placed
+  own-lines = two .lines
 
-  strip-placed :
-      (t : ℕ) → t < b + w → (i : ℕ) → i < from .len → lineAt after to t i ≡ lineAt ds from t i
-  strip-placed t h i l =
+  strip-lines :
+      (t : ℕ) → t < b + w → (i : ℕ) → i < to .len → lineAt after to t i ≡ withParity r (to .len) (lineAt ds from t) i
+  strip-lines t h i l =
       elim (decLt t b) [
-        | yes m ↦ ap (λ (c : ℕ → ℕ). c i) (before-strip t m) ∙ (unfold front lineAt in one .placed t (omega arith) i l)
+        | yes m ↦ ap (λ (c : ℕ → ℕ). c i) (before-strip t m) ∙ (unfold front lineAt in one .lines t (omega arith) i l)
         | no m ↦
             ap (λ (c : ℕ → ℕ). c i) (sym (part-line after to b w t (omega arith)))
-            ∙ own-placed (t - b) (omega arith) i l
-            ∙ ap (λ (c : ℕ → ℕ). c i) (part-line ds from b w t (omega arith))
-      ]
-
-  strip-codewords : (t : ℕ) → t < b + w → Codeword r (lineAt after to t) (to .len)
-  strip-codewords t h =
-      elim (decLt t b) [
-        | yes m ↦ subst (λ (c : ℕ → ℕ). Codeword r c (to .len)) (sym (before-strip t m)) (unfold front lineAt in one .codewords t (omega arith))
-        | no m ↦
-            subst (λ (c : ℕ → ℕ). Codeword r c (to .len)) (part-line after to b w t (omega arith))
-            (unfold part in two .codewords (t - b) (omega arith))
+            ∙ own-lines (t - b) (omega arith) i l
+            ∙ ap (λ (c : ℕ → ℕ). withParity r (to .len) c i) (part-line ds from b w t (omega arith))
       ]
 
   pub encoded-strip : Encoded r (front from (b + w)) (front to (b + w)) ds before after
@@ -267,30 +250,5 @@ module _ {r : ℕ} (from to : Run) (a b w : ℕ) {ds before mid after : List ℕ
         size = two .size ∙ one .size;
         kept =
             λ p o. two .kept p (λ i l. off-next to b w i p (o i l)) ∙ one .kept p (λ i l. off-first to a (b + w) i p covers (o i l));
-        placed = strip-placed;
-        codewords = strip-codewords;
-      }
-
--- ---- the outcome of the public call
-
-module _ {r : ℕ} (from to : Run) (ds : List ℕ) where
-  pub encode-refused :
-      (l : List ℕ) → (Inside to (length l) → Feeds from to (length ds) → ⊥) → EncodeOutcome r from to ds l l false
-  encode-refused l never =
-      record {
-        yes-when = λ h f. absurd (never h f);
-        yes-then = λ e. absurd (false≢true e);
-        written = λ e. absurd (false≢true e);
-        kept-else = λ e. refl;
-      }
-
-  pub encode-done :
-      {q : ℕ} {before after : List ℕ} → q ≡ r → Encoded q from to ds before after → Inside to (length before) →
-      Feeds from to (length ds) → EncodeOutcome r from to ds before after true
-  encode-done {q} {before} {after} e s h f =
-      record {
-        yes-when = λ h' f'. refl;
-        yes-then = λ y. (h, f);
-        written = λ y. subst (λ (x : ℕ). Encoded x from to ds before after) e s;
-        kept-else = λ y. absurd (true≢false y);
+        lines = strip-lines;
       }

@@ -1,7 +1,7 @@
 -- Erasures filled in: the completed line is a codeword where two places were erased, and the only one that agrees with what was known.
 use mathlib.Core.Path.{_≡_, refl, sym, ap, ap₂, _∙_}
 use mathlib.Core.Logic.{_≢_}
-use Prim.Native.Nat.{ℕ, _+_, _≤_, _<_}
+use Prim.Native.Nat.{ℕ, _+_, _-_, _≤_, _<_}
 use native.Mathlib.Decide.{ℕ-discrete}
 use native.Mathlib.Omega.{arith}
 use lib.Dec.{eqb}
@@ -9,7 +9,7 @@ use Rattle.field.specs.Field.{add, mul, pow, inverse, Primitive}
 use Rattle.field.proofs.Addition.{add-zero-l, add-zero-r, add-comm, add-assoc, add-left-comm, add-self, add-lt, add-eq-zero}
 use Rattle.field.proofs.Multiplication.{mul-comm, mul-add-l, mul-add-r, mul-one-r, mul-zero-r, mul-lt, ring}
 use Rattle.field.proofs.Power.{pow-lt, pow-different, mul-inverse}
-use Rattle.line.specs.Line.{syndrome0, syndrome1, Codeword, pick, erased, row0, row1, solved, completed}
+use Rattle.line.specs.Line.{syndrome0, syndrome1, Codeword, pick, erased, row0, row1, solved, completed, withParity}
 use Rattle.line.proofs.Pick.{pick-eq, pick-ne}
 use Rattle.line.proofs.Syndrome.{syndrome0-cong, syndrome1-cong, syndrome0-zeros, syndrome1-zeros, syndrome0-add, syndrome1-add, syndrome0-lt, syndrome1-lt, single, single-at, single-off, syndrome0-single, syndrome1-single, syndrome0-change}
 use Rattle.line.proofs.Codeword.{codeword-cong, codeword-zero, codeword-add, codeword-scale, codeword-sum0, codeword-sum1, codeword-unique}
@@ -119,6 +119,40 @@ completed-earlier r n j k c ne = pick-ne j k _ _ ne ∙ pick-eq j j _ _ refl
 pub completed-off : (r n j k : ℕ) (c : ℕ → ℕ) (i : ℕ) → i ≢ j → i ≢ k → completed r n j k c i ≡ c i
 unfolding completed
 completed-off r n j k c i nj nk = pick-ne i k _ _ nk ∙ pick-ne i j _ _ nj
+
+-- the completed line hangs on the places that are not erased alone
+pub completed-cong : (r n j k : ℕ) (c d : ℕ → ℕ) → ((i : ℕ) → i < n → i ≢ j → i ≢ k → c i ≡ d i) → (i : ℕ) → i < n
+    → completed r n j k c i ≡ completed r n j k d i
+completed-cong r n j k c d same i l =
+    elim (ℕ-discrete i k) [
+      | yes e ↦ rw e (completed-later r n j k c ∙ solution ∙ sym (completed-later r n j k d))
+      | no nk ↦
+          elim (ℕ-discrete i j) [
+            | yes e ↦
+                let ne : j ≢ k = λ f. nk (e ∙ f) in
+                rw e (completed-earlier r n j k c ne ∙ ap₂ add first solution ∙ sym (completed-earlier r n j k d ne))
+            | no nj ↦ completed-off r n j k c i nj nk ∙ same i l nj nk ∙ sym (completed-off r n j k d i nj nk)
+          ]
+    ]
+  where
+    place : (q : ℕ) → q < n → erased j k c q ≡ erased j k d q
+    place q m =
+        elim (ℕ-discrete q k) [
+          | yes e ↦ rw e (erased-later j k c ∙ sym (erased-later j k d))
+          | no nk ↦
+              elim (ℕ-discrete q j) [
+                | yes e ↦ rw e (erased-earlier j k c ∙ sym (erased-earlier j k d))
+                | no nj ↦ erased-off j k c q nj nk ∙ same q m nj nk ∙ sym (erased-off j k d q nj nk)
+              ]
+        ]
+
+    first : syndrome0 (erased j k c) n ≡ syndrome0 (erased j k d) n
+    first = syndrome0-cong (erased j k c) (erased j k d) n place
+
+    solution :
+        solved r j k (syndrome0 (erased j k c) n) (syndrome1 r (erased j k c) n)
+        ≡ solved r j k (syndrome0 (erased j k d) n) (syndrome1 r (erased j k d) n)
+    solution = ap₂ (solved r j k) first (syndrome1-cong r (erased j k c) (erased j k d) n place)
 
 pub completed-lt : (r n j k : ℕ) (c : ℕ → ℕ) → r < 256 → ((i : ℕ) → i < n → c i < 256) → (i : ℕ) → i < n → completed r n j k c i < 256
 completed-lt r n j k c fits bytes i l =
@@ -306,3 +340,23 @@ module _ (r : ℕ) (x : ℕ → ℕ → ℕ) (n m j k : ℕ) (fits : r < 256) (h
               | no nj ↦ codeword-cong r (x i) _ m (λ t u. sym (completed-off r n j k (λ q. x q t) i nj nk)) (h i l nj nk)
             ]
       ]
+
+-- ---- a line with its parity
+
+pub parity-off : (r n : ℕ) (c : ℕ → ℕ) (i : ℕ) → i < n - 2 → withParity r n c i ≡ c i
+unfolding withParity
+parity-off r n c i l = completed-off r n (n - 2) (n - 1) c i (omega arith) (omega arith)
+
+pub parity-right : (r n : ℕ) (c : ℕ → ℕ) → Primitive r → 2 ≤ n → n ≤ 255 → Codeword r (withParity r n c) n
+unfolding withParity
+parity-right r n c p low high = completed-codeword r n (n - 2) (n - 1) c p high (omega arith) (omega arith)
+
+-- codewords x 0 .. x (n - 1) side by side stay codewords when the lines across them get their parity
+pub parity-across : (r n m : ℕ) (x : ℕ → ℕ → ℕ) → r < 256 → ((i : ℕ) → Codeword r (x i) m) → (i : ℕ) → i < n
+    → Codeword r (λ t. withParity r n (λ q. x q t) i) m
+unfolding withParity
+parity-across r n m x fits h i l = completed-rows r x n m (n - 2) (n - 1) fits (λ q _ _ _. h q) i l
+
+pub parity-lt : (r n : ℕ) (c : ℕ → ℕ) → r < 256 → ((i : ℕ) → c i < 256) → (i : ℕ) → i < n → withParity r n c i < 256
+unfolding withParity
+parity-lt r n c fits bytes i l = completed-lt r n (n - 2) (n - 1) c fits (λ q _. bytes q) i l

@@ -10,7 +10,7 @@ use lib.ListN.{length, getD}
 use Rattle.line.specs.declared.Run.{Run}
 use Rattle.line.specs.Line.{Codeword}
 use Rattle.line.specs.Run.{Inside, Off, lineAt}
-use Rattle.line.specs.Block.{part, front, Block, Cover}
+use Rattle.line.specs.Inner.Block.{part, front, Block, Cover}
 use Rattle.line.proofs.Geometry.{stride-below, off-place}
 
 -- ---- parts of a run

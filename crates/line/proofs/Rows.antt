@@ -39,7 +39,7 @@ from-row : ℕ → ℕ → List ℕ → Erasures
 from-row j k row = record { j = j; k = k; b = getD row 0 0; d = getD row 1 0 }
 
 pub row-erasures :
-    (q r j k : ℕ) (row : List ℕ) → q ≡ r → row ≡ row0 q j k ∷ row1 q j k ∷ [] →
+    (r j k : ℕ) (row : List ℕ) → row ≡ row0 r j k ∷ row1 r j k ∷ [] →
     _≡_ {A = Erasures} (record { j = j; k = k; b = getD row 0 0; d = getD row 1 0 }) (erasuresAt r j k)
 unfolding erasuresAt from-row
-row-erasures q r j k row e h = ap (from-row j k) h ∙ ap (λ (x : ℕ). erasuresAt x j k) e
+row-erasures r j k row h = ap (from-row j k) h

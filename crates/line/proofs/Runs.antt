@@ -1,4 +1,4 @@
--- Runs: what `Solved` says of the list is that each line of the run is completed and every other byte kept.
+-- Runs: where lines are solved by the row of the inverted array, each is completed, and where they are encoded, each is a codeword.
 use mathlib.Core.Path.{_≡_, sym, ap, _∙_}
 use mathlib.Core.List.{List}
 use mathlib.Core.Logic.{_≢_}
@@ -8,17 +8,31 @@ use native.Mathlib.Omega.{arith}
 use lib.ListN.{length, getD}
 use Rattle.field.specs.Field.{add, Primitive}
 use Rattle.line.specs.declared.Run.{Run}
-use Rattle.line.specs.Line.{Codeword, syndrome0, erased, completed, solved}
-use Rattle.line.specs.Run.{lineAt, Inside, Solved, Written, erasuresAt}
+use Rattle.line.specs.Line.{Codeword, syndrome0, syndrome1, erased, completed, solved, withParity}
+use Rattle.line.specs.Run.{lineAt, Inside, Off, ErasuresWritten, erasuresAt, Feeds, Encoded}
 use Rattle.line.proofs.Codeword.{codeword-cong}
 use Rattle.line.proofs.Geometry.{off-of-ne, off-place}
-use Rattle.line.proofs.Erasure.{completed-later, completed-earlier, completed-off, completed-codeword, completed-forced}
+use Rattle.line.proofs.Erasure.{completed-later, completed-earlier, completed-off, completed-codeword, completed-forced, parity-off, parity-right}
 
--- ---- what `Solved` says
+-- ---- lines solved
+
+-- `after` is `before` with the erasures j ≤ k of each line filled in.
+pub record Solved (r : ℕ) (run : Run) (j k : ℕ) (before after : List ℕ) : Type 0 where
+  pub size : length after ≡ length before
+  pub kept : (p : ℕ) → Off run j p → Off run k p → getD after p 0 ≡ getD before p 0
+  pub later :
+      (t : ℕ) → t < run .width →
+      lineAt after run t k ≡
+      solved r j k (syndrome0 (erased j k (lineAt before run t)) (run .len))
+      (syndrome1 r (erased j k (lineAt before run t)) (run .len))
+  pub earlier :
+      j < k → (t : ℕ) → t < run .width →
+      lineAt after run t j ≡
+      add (syndrome0 (erased j k (lineAt before run t)) (run .len)) (lineAt after run t k)
 
 -- what the row of the inverted array writes
 pub written-solved :
-    {r : ℕ} {run : Run} {j k : ℕ} {before after : List ℕ} → Written r run (erasuresAt r j k) before after →
+    {r : ℕ} {run : Run} {j k : ℕ} {before after : List ℕ} → ErasuresWritten r run (erasuresAt r j k) before after →
     Solved r run j k before after
 unfolding erasuresAt solved
 written-solved w = record { size = w .size; kept = w .kept; later = w .later; earlier = w .earlier }
@@ -70,3 +84,19 @@ pub solved-forced : (r : ℕ) (run : Run) (j k : ℕ) (before after : List ℕ) 
 solved-forced r run j k before after p inside s le l t m bytes x bx w h i q =
     solved-lines r run j k before after s (inside .apart) le t m i
     ∙ sym (completed-forced r (run .len) j k (lineAt before run t) x p (inside .few-places) bytes bx le l w h i q)
+
+-- ---- lines encoded
+
+module _ {r n : ℕ} {from to : Run} {ds before after : List ℕ} (feeds : Feeds from to n) (e : Encoded r from to ds before after) where
+  -- each line of the data stands in its line
+  pub encoded-placed : (t : ℕ) → t < to .width → (i : ℕ) → i < from .len → lineAt after to t i ≡ lineAt ds from t i
+  encoded-placed t h i l =
+      e .lines t h i (omega (arith, feeds .places))
+      ∙ parity-off r (to .len) (lineAt ds from t) i (omega (arith, feeds .places))
+
+  -- each line is a codeword where α is primitive
+  pub encoded-codewords : Primitive r → to .len ≤ 255 → (t : ℕ) → t < to .width → Codeword r (lineAt after to t) (to .len)
+  encoded-codewords p few t h =
+      codeword-cong r (withParity r (to .len) (lineAt ds from t)) (lineAt after to t) (to .len)
+      (λ i l. sym (e .lines t h i l))
+      (parity-right r (to .len) (lineAt ds from t) p (omega (arith, feeds .places)) few)

@@ -6,14 +6,15 @@ use Prim.Native.Nat.{ℕ, _+_, _*_, _≤_, _<_}
 use native.Mathlib.Decide.{ℕ-discrete}
 use native.Mathlib.Omega.{arith}
 use lib.ListN.{length, getD}
-use Rattle.span.specs.Span.{Copied}
-use Rattle.span.proofs.Copying.{copied-beside, copied-whole}
+use Rattle.span.specs.Span.{Copied, SetTo}
+use Rattle.span.proofs.Keeping.{kept-beside}
+use Rattle.span.proofs.Copying.{copied-whole}
 use Rattle.field.specs.Field.{add, mul}
 use Rattle.line.specs.declared.Run.{Run}
 use Rattle.line.specs.declared.Erasures.{Erasures}
 use Rattle.line.specs.Line.{syndrome0, syndrome1, erased}
-use Rattle.line.specs.Run.{lineAt, Inside, Off, Written}
-use Rattle.line.specs.Block.{places, ToEnd, Cleared, Combined, Combining}
+use Rattle.line.specs.Run.{lineAt, Inside, Off, ErasuresWritten}
+use Rattle.line.specs.Inner.Block.{places, ToEnd, Combined, Combining}
 use Rattle.line.proofs.Erasure.{syndrome0-erased-end, syndrome1-erased-end}
 use Rattle.line.proofs.Geometry.{off-place, off-width, stride-below}
 use Rattle.line.proofs.Parts.{Changed}
@@ -24,14 +25,14 @@ use Rattle.line.proofs.Pick.{pick-eq, pick-ne}
 unfoldable pub Erased : ℕ → ℕ → ℕ → ℕ → Type 0
 Erased j k n i = (i ≡ j) ⊎ (i ≡ k)
 
-pub record Filled (r : ℕ) (e : Erasures) (n : ℕ) (c d : ℕ → ℕ) : Type 0 where
+pub record ErasuresFilled (r : ℕ) (e : Erasures) (n : ℕ) (c d : ℕ → ℕ) : Type 0 where
   pub later :
       d (e .k) ≡
       add (mul r (syndrome0 (erased (e .j) (e .k) c) n) (e .b)) (mul r (syndrome1 r (erased (e .j) (e .k) c) n) (e .d))
   pub earlier : e .j < e .k → d (e .j) ≡ add (syndrome0 (erased (e .j) (e .k) c) n) (d (e .k))
 
 module _ {r : ℕ} {run : Run} {e : Erasures} {before after : List ℕ} where
-  pub written-changed : Written r run e before after → Changed (Erased (e .j) (e .k)) (Filled r e) run before after
+  pub written-changed : ErasuresWritten r run e before after → Changed (Erased (e .j) (e .k)) (ErasuresFilled r e) run before after
   unfolding Erased
   written-changed s =
       record {
@@ -40,7 +41,7 @@ module _ {r : ℕ} {run : Run} {e : Erasures} {before after : List ℕ} where
         lines = λ t h. record { later = s .later t h; earlier = λ l. s .earlier l t h };
       }
 
-  pub changed-written : Changed (Erased (e .j) (e .k)) (Filled r e) run before after → Written r run e before after
+  pub changed-written : Changed (Erased (e .j) (e .k)) (ErasuresFilled r e) run before after → ErasuresWritten r run e before after
   unfolding Erased
   changed-written c =
       record {
@@ -71,7 +72,7 @@ erased-same j k n c c' same =
 
 pub filled-again :
     (r : ℕ) (e : Erasures) (n : ℕ) (c c' d : ℕ → ℕ) → ((i : ℕ) → (Erased (e .j) (e .k) n i → ⊥) → c i ≡ c' i) →
-    Filled r e n c' d → Filled r e n c d
+    ErasuresFilled r e n c' d → ErasuresFilled r e n c d
 filled-again r e n c c' d same f =
     record { later = rw z at (f .later); earlier = λ l. rw z at (f .earlier l) }
   where
@@ -82,24 +83,28 @@ filled-again r e n c c' d same f =
 
 -- a line whose two erasures are cleared
 cleared-line :
-    (run : Run) (j k : ℕ) (l0 l1 l2 : List ℕ) → Cleared run j l0 l1 → Cleared run k l1 l2 → run .width ≤ run .stride →
+    (run : Run) (j k : ℕ) (l0 l1 l2 : List ℕ) → SetTo l0 (run .first + run .stride * j) (run .width) 0 l1 →
+    SetTo l1 (run .first + run .stride * k) (run .width) 0 l2 → run .width ≤ run .stride →
     (t : ℕ) → t < run .width → lineAt l2 run t ≡ erased j k (lineAt l0 run t)
 unfolding erased
 cleared-line run j k l0 l1 l2 cj ck apart t h =
     fun-ext
     (λ i. elim (ℕ-discrete i k) [
-      | yes e ↦ ap (lineAt l2 run t) e ∙ ck .zeros t h ∙ sym (pick-eq i k _ _ e)
+      | yes e ↦ ap (lineAt l2 run t) e ∙ zero l1 l2 k ck ∙ sym (pick-eq i k _ _ e)
       | no ne ↦
           kept l1 l2 k ck i ne
           ∙ elim (ℕ-discrete i j) [
-            | yes e ↦ ap (lineAt l1 run t) e ∙ cj .zeros t h ∙ sym (pick-eq i j _ _ e)
+            | yes e ↦ ap (lineAt l1 run t) e ∙ zero l0 l1 j cj ∙ sym (pick-eq i j _ _ e)
             | no nj ↦ kept l0 l1 j cj i nj ∙ sym (pick-ne i j _ _ nj)
           ]
           ∙ sym (pick-ne i k _ _ ne)
     ])
   where
-    kept : (b a : List ℕ) (n : ℕ) → Cleared run n b a → (i : ℕ) → i ≢ n → lineAt a run t i ≡ lineAt b run t i
-    kept b a n c i ne = unfold lineAt in c .kept _ (off-place run i n t apart (omega arith) ne)
+    zero : (b a : List ℕ) (n : ℕ) → SetTo b (run .first + run .stride * n) (run .width) 0 a → lineAt a run t n ≡ 0
+    zero b a n c = unfold lineAt in c .bytes t h
+
+    kept : (b a : List ℕ) (n : ℕ) → SetTo b (run .first + run .stride * n) (run .width) 0 a → (i : ℕ) → i ≢ n → lineAt a run t i ≡ lineAt b run t i
+    kept b a n c i ne = unfold lineAt Off in kept-beside (c .kept) _ (off-place run i n t apart (omega arith) ne)
 
 -- both erasures of each line written from the syndromes of the erased lines, whatever stood at the erasures then
 combined-erased :
@@ -107,7 +112,7 @@ combined-erased :
     ((p : ℕ) → Off run (e .j) p → Off run (e .k) p → getD l1 p 0 ≡ getD l0 p 0) →
     ((t : ℕ) → t < run .width → getD s0 t 0 ≡ syndrome0 (erased (e .j) (e .k) (lineAt l0 run t)) (run .len)) →
     ((t : ℕ) → t < run .width → getD s1 t 0 ≡ syndrome1 r (erased (e .j) (e .k) (lineAt l0 run t)) (run .len)) →
-    Combined r run e s0 s1 l1 l2 → Written r run e l0 l2
+    Combined r run e s0 s1 l1 l2 → ErasuresWritten r run e l0 l2
 combined-erased r run e l0 l1 l2 s0 s1 size kept first second co =
     record {
       size = co .size ∙ size;
@@ -128,21 +133,22 @@ pub copied-combined :
 unfolding lineAt
 copied-combined {r} {run} {e} {s0} {s1} w apart ys xs sj sk =
     record {
-      size = sk .size ∙ sj .size;
+      size = sk .kept .size ∙ sj .kept .size;
       kept =
-          λ p oj ok. copied-beside sk p (off-width run (e .k) p 64 (sym w) ok) ∙ copied-beside sj p (off-width run (e .j) p 64 (sym w) oj);
+          λ p oj ok. kept-beside (sk .kept) p (off-width run (e .k) p 64 (sym w) ok) ∙ kept-beside (sj .kept) p (off-width run (e .j) p 64 (sym w) oj);
       later = λ t h. copied-whole sk t (omega arith) ∙ ys t (omega arith);
       earlier =
-          λ l t h. sk .below _ (omega (arith, stride-below (run .stride) (e .j) (e .k) l))
+          λ l t h. sk .kept .below _ (omega (arith, stride-below (run .stride) (e .j) (e .k) l))
           ∙ copied-whole sj t (omega arith) ∙ xs t (omega arith)
           ∙ ap (add (getD s0 t 0)) (sym (copied-whole sk t (omega arith)));
     }
 
 pub combining-cleared :
-    {r : ℕ} {run : Run} {e : Erasures} {l0 l1 l2 l3 : List ℕ} → run .width ≤ run .stride → Cleared run (e .j) l0 l1 →
-    Cleared run (e .k) l1 l2 → Combining r run run e l2 l3 → Written r run e l0 l3
+    {r : ℕ} {run : Run} {e : Erasures} {l0 l1 l2 l3 : List ℕ} → run .width ≤ run .stride → SetTo l0 (run .first + run .stride * e .j) (run .width) 0 l1 →
+    SetTo l1 (run .first + run .stride * e .k) (run .width) 0 l2 → Combining r run run e l2 l3 → ErasuresWritten r run e l0 l3
 combining-cleared {r} {run} {e} {l0} {l1} {l2} {l3} apart cj ck co =
-    combined-erased r run e l0 l2 l3 (co .s0) (co .s1) (ck .size ∙ cj .size) (λ p oj ok. ck .kept p ok ∙ cj .kept p oj)
+    combined-erased r run e l0 l2 l3 (co .s0) (co .s1) (ck .kept .size ∙ cj .kept .size)
+    (λ p oj ok. unfold Off in kept-beside (ck .kept) p ok ∙ kept-beside (cj .kept) p oj)
     (λ t h. co .syndromes .first t h ∙ ap (λ (c : ℕ → ℕ). syndrome0 c (run .len)) (line t h))
     (λ t h. co .syndromes .second t h ∙ ap (λ (c : ℕ → ℕ). syndrome1 r c (run .len)) (line t h)) (co .combined)
   where
@@ -173,7 +179,7 @@ line-places s run m t = fun-ext (λ i. refl)
 
 pub combining-end :
     {r : ℕ} {run read : Run} {e : Erasures} {l0 l1 : List ℕ} → e .j ≤ e .k → ToEnd run e → read ≡ places run (e .j) →
-    Combining r read run e l0 l1 → Written r run e l0 l1
+    Combining r read run e l0 l1 → ErasuresWritten r run e l0 l1
 unfolding places
 combining-end {r} {run} {read} {e} {l0} {l1} le end eq given =
     combined-erased r run e l0 l0 l1 (co .s0) (co .s1) refl (λ p oj ok. refl)

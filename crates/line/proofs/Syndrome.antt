@@ -10,7 +10,7 @@ use Rattle.field.specs.Field.{add, xtime, mul, pow}
 use Rattle.field.proofs.Addition.{add-zero-l, add-zero-r, add-left-comm, add-swap, add-self, add-cancel, add-lt}
 use Rattle.field.proofs.Multiplication.{xtime-zero, xtime-add, xtime-mul-l, mul-zero-r, mul-add-r, mul-one-l, mul-lt, mul-left-comm}
 use Rattle.line.specs.Line.{syndrome0, syndrome1, pick}
-use Rattle.line.specs.Block.{tail0, tail1}
+use Rattle.line.specs.Inner.Wide.{tail0, tail1}
 use Rattle.line.proofs.Pick.{pick-eq, pick-ne}
 
 -- ---- the places below the length count

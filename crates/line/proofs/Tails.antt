@@ -10,7 +10,9 @@ use Rattle.field.specs.Field.{add, xtime}
 use Rattle.field.proofs.Addition.{add-comm}
 use Rattle.line.specs.declared.Run.{Run}
 use Rattle.line.specs.Run.{lineAt}
-use Rattle.line.specs.Block.{tail0, tail1, Tails, Syndromes, One, Four, Step, horner0, horner1}
+use Rattle.line.specs.Inner.Wide.{tail0, tail1, Tails, One, Four, horner0, horner1}
+use Rattle.line.specs.Inner.Block.{Syndromes}
+use Rattle.line.specs.Inner.Strip.{Step}
 use Rattle.line.proofs.Syndrome.{tail0-end, tail1-end, tail0-step, tail1-step, tail0-whole, tail1-whole}
 
 step0 : (c : ℕ → ℕ) (n i next : ℕ) → next ≡ i + 1 → i < n → add (tail0 c n next) (c i) ≡ tail0 c n i

@@ -1,20 +1,16 @@
--- An or is 0 exactly when both sides are, and so for all first bytes of two lists.
+-- The first bytes of two lists, joined by or, are 0 exactly when each is.
 use mathlib.Core.Path.{_≡_, sym, _∙_}
 use mathlib.Core.List.{List}
 use Prim.Native.Nat.{ℕ, _+_, _≤_, _<_}
 use native.Mathlib.Omega.{arith}
 use borrow.Author.Count.{below-more}
 use lib.ListN.{getD}
-use lib.Bits.{bitOr, bitAnd, or-add-and, and-le-l, and-le-r}
+use lib.Bits.{bitOr}
+use Rattle.span.proofs.Joining.{or-zero}
 use Rattle.line.specs.declared.Run.{Run}
 use Rattle.line.specs.Line.{Codeword}
 use Rattle.line.specs.Run.{lineAt}
-use Rattle.line.specs.Block.{Syndromes, AllZero}
-
-or-zero : (a b : ℕ) → bitOr a b ≡ 0 → (a ≡ 0) × (b ≡ 0)
-or-zero a b h =
-    let sum : bitAnd a b ≡ a + b = omega (arith, or-add-and a b) in
-    (omega (arith, and-le-r a b), omega (arith, and-le-l a b))
+use Rattle.line.specs.Inner.Block.{Syndromes, AllZero}
 
 pub zeros-none : (s0 s1 : List ℕ) → AllZero 0 s0 s1
 zeros-none s0 s1 = record { first = λ t h. absurd (omega arith); second = λ t h. absurd (omega arith) }

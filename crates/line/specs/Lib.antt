@@ -1,5 +1,4 @@
--- What a reader of the crate `line` must believe: Line and Run. Block and Solver are what its private functions owe one another.
-pub mod Block
+-- What a reader of the crate `line` must believe: Line, then Run. Inner is what its private functions owe one another.
 pub mod Line
 pub mod Run
-pub mod Solver
+pub mod Inner

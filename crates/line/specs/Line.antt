@@ -2,7 +2,7 @@
 use mathlib.Core.Path.{_≡_}
 use mathlib.Core.Bool.{Bool, true, false}
 use mathlib.Core.Logic.{_≢_}
-use Prim.Native.Nat.{ℕ, zero, suc, _<_}
+use Prim.Native.Nat.{ℕ, zero, suc, _-_, _<_}
 use lib.Dec.{eqb}
 use Rattle.field.specs.Field.{add, mul, pow, inverse}
 
@@ -50,6 +50,10 @@ completed r n j k c i =
     (solved r j k (syndrome0 (erased j k c) n) (syndrome1 r (erased j k c) n)))
     (c i))
 
+-- "Places L-2 and L-1 are parity": the line of length n with its parity filled in from its other places, whatever stood there
+unfoldable pub withParity : ℕ → ℕ → (ℕ → ℕ) → ℕ → ℕ
+withParity r n c = completed r n (n - 2) (n - 1) c
+
 -- "With sums v0, v1 both nonzero, v1 = α^j × v0 and j < L": j is the place of a single error
 pub record ErrorAt (r v0 v1 n j : ℕ) : Type 0 where
   pub first-nonzero : v0 ≢ 0
@@ -57,9 +61,15 @@ pub record ErrorAt (r v0 v1 n j : ℕ) : Type 0 where
   pub below : j < n
   pub factor : v1 ≡ mul r (pow r j) v0
 
+-- "v1 = α^j × v0 and j < L": the first such place j, and n where there is none. Where α is primitive it is the only one.
+unfoldable pub errorPlace : ℕ → ℕ → ℕ → ℕ → ℕ
+errorPlace r v0 v1 zero = zero
+errorPlace r v0 v1 (suc n) =
+    pick (eqb (errorPlace r v0 v1 n) n) (pick (eqb v1 (mul r (pow r n) v0)) n (suc n)) (errorPlace r v0 v1 n)
+
 -- "v0 is added to c(j); otherwise the line keeps its bytes": the line of length n after single-error correction (document 01: mended)
 unfoldable pub corrected : ℕ → ℕ → (ℕ → ℕ) → ℕ → ℕ
 corrected r n c i =
     pick (eqb (syndrome0 c n) 0) (c i)
     (pick (eqb (syndrome1 r c n) 0) (c i)
-    (pick (eqb (syndrome1 r c n) (mul r (pow r i) (syndrome0 c n))) (add (c i) (syndrome0 c n)) (c i)))
+    (pick (eqb i (errorPlace r (syndrome0 c n) (syndrome1 r c n) n)) (add (c i) (syndrome0 c n)) (c i)))

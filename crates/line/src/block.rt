@@ -7,13 +7,15 @@ ghost use mathlib.Core.Path.{_≡_};
 ghost use Prim.Native.Nat.{ℕ, _+_, _*_, _^_, _<_, _≤_, min};
 ghost use lib.ListN.{length};
 ghost use Rattle.line.specs.Line.{Codeword};
-ghost use Rattle.line.specs.Run.{Inside, Written, lineAt};
-ghost use Rattle.line.specs.Block.{Decides, Block, Cover, ToEnd, Cleared, Combining, part, places};
+ghost use Rattle.line.specs.Run.{Inside, ErasuresWritten, lineAt};
+ghost use Rattle.span.specs.Decision.{Decides};
+ghost use Rattle.span.specs.Span.{SetTo};
+ghost use Rattle.line.specs.Inner.Block.{Block, Cover, ToEnd, Combining, part, places};
 
 // Writes both erasures of every line of the run.
 pub(crate) fn solve_blocks(s: &mut [u8], reduction: u8, run: Run, e: Erasures)
     requires { ⌜ (Inside run (length (now s))) × (e .j ≤ e .k) × (e .k < run .len) ⌝ }
-    ensures { λ r. ⌜ Written reduction run e (now (s .entry)) (now (s .exit)) ⌝ }
+    ensures { λ r. ⌜ ErasuresWritten reduction run e (now (s .entry)) (now (s .exit)) ⌝ }
 {
     let width = run.width;
     let mut done = 0;
@@ -27,7 +29,7 @@ pub(crate) fn solve_blocks(s: &mut [u8], reduction: u8, run: Run, e: Erasures)
 // Where every place from j on is erased, the places before j alone count: no byte at an erasure is read or cleared.
 fn solve_block(s: &mut [u8], reduction: u8, run: Run, e: Erasures)
     requires { ⌜ (Inside run (length (now s))) × (run .width ≤ 4096) × (e .j ≤ e .k) × (e .k < run .len) ⌝ }
-    ensures { λ r. ⌜ Written reduction run e (now (s .entry)) (now (s .exit)) ⌝ }
+    ensures { λ r. ⌜ ErasuresWritten reduction run e (now (s .entry)) (now (s .exit)) ⌝ }
 {
     if erased_to_end(run, e) {
         combine(s, reduction, first_places(run, e.j), run, e);
@@ -151,13 +153,7 @@ fn least(a: usize, b: usize) -> usize
 // Makes place i of each line of the run 00h.
 fn clear(s: &mut [u8], run: Run, i: usize)
     requires { ⌜ (Inside run (length (now s))) × (i < run .len) ⌝ }
-    ensures { λ r. ⌜ Cleared run i (now (s .entry)) (now (s .exit)) ⌝ }
+    ensures { λ r. ⌜ SetTo (now (s .entry)) (run .first + run .stride * i) (run .width) 0 (now (s .exit)) ⌝ }
 {
-    let width = run.width;
-    let at = run.first + run.stride * i;
-    let mut t = 0;
-    while t < width {
-        s[at + t] = 0;
-        t += 1;
-    }
+    span::set(s, run.first + run.stride * i, run.width, 0);
 }

@@ -6,13 +6,13 @@ use crate::wide;
 ghost use mathlib.Core.Path.{_≡_};
 ghost use Prim.Native.Nat.{_<_, _≤_};
 ghost use lib.ListN.{length};
-ghost use Rattle.field.specs.Field.{Primitive};
 ghost use Rattle.line.specs.Line.{syndrome0, syndrome1};
-ghost use Rattle.line.specs.Run.{Inside, Corrected, PlaceOutcome, lineAt};
-ghost use Rattle.line.specs.Block.{Syndromes, part};
+ghost use Rattle.line.specs.Run.{Inside, Corrected, lineAt};
+ghost use Rattle.line.specs.Inner.Corrector.{PlaceOutcome};
+ghost use Rattle.line.specs.Inner.Block.{Syndromes, part};
 
 // The place of a single error on a line of length n with the syndromes v0 and v1.
-pub(crate) fn error_place(reduction: u8, v0: u8, v1: u8, n: usize) -> Place
+fn error_place(reduction: u8, v0: u8, v1: u8, n: usize) -> Place
     ensures { λ r. ⌜ PlaceOutcome reduction v0 v1 n r ⌝ }
 {
     if v0 == 0 {
@@ -43,7 +43,7 @@ fn search(reduction: u8, v0: u8, v1: u8, n: usize) -> Place
 
 // Corrects every line of the run, block by block.
 pub(crate) fn correct_blocks(s: &mut [u8], reduction: u8, run: Run)
-    requires { ⌜ (Primitive reduction) × (Inside run (length (now s))) ⌝ }
+    requires { ⌜ Inside run (length (now s)) ⌝ }
     ensures { λ r. ⌜ Corrected reduction run (now (s .entry)) (now (s .exit)) ⌝ }
 {
     let width = run.width;
@@ -57,7 +57,7 @@ pub(crate) fn correct_blocks(s: &mut [u8], reduction: u8, run: Run)
 
 // Most blocks hold codewords alone, and need no more than to be looked at.
 fn correct_block(s: &mut [u8], reduction: u8, run: Run)
-    requires { ⌜ (Primitive reduction) × (Inside run (length (now s))) × (run .width ≤ 4096) ⌝ }
+    requires { ⌜ (Inside run (length (now s))) × (run .width ≤ 4096) ⌝ }
     ensures { λ r. ⌜ Corrected reduction run (now (s .entry)) (now (s .exit)) ⌝ }
 {
     if block::codeword_block(s, reduction, run) {
@@ -70,7 +70,7 @@ fn correct_block(s: &mut [u8], reduction: u8, run: Run)
 }
 
 fn correct_lines(s: &mut [u8], s0: &[u8; 4096], s1: &[u8; 4096], reduction: u8, run: Run)
-    requires { ⌜ (Primitive reduction) × (Inside run (length (now s))) × (run .width ≤ 4096) × (Syndromes reduction run (now s) (now s0) (now s1)) ⌝ }
+    requires { ⌜ (Inside run (length (now s))) × (run .width ≤ 4096) × (Syndromes reduction run (now s) (now s0) (now s1)) ⌝ }
     ensures { λ r. ⌜ Corrected reduction run (now (s .entry)) (now (s .exit)) ⌝ }
 {
     let width = run.width;
@@ -82,7 +82,7 @@ fn correct_lines(s: &mut [u8], s0: &[u8; 4096], s1: &[u8; 4096], reduction: u8, 
 }
 
 fn correct_line(s: &mut [u8], reduction: u8, run: Run, t: usize, v0: u8, v1: u8)
-    requires { ⌜ (Primitive reduction) × (Inside run (length (now s))) × (t < run .width) × (v0 ≡ syndrome0 (lineAt (now s) run t) (run .len)) × (v1 ≡ syndrome1 reduction (lineAt (now s) run t) (run .len)) ⌝ }
+    requires { ⌜ (Inside run (length (now s))) × (t < run .width) × (v0 ≡ syndrome0 (lineAt (now s) run t) (run .len)) × (v1 ≡ syndrome1 reduction (lineAt (now s) run t) (run .len)) ⌝ }
     ensures { λ r. ⌜ Corrected reduction (part run t 1) (now (s .entry)) (now (s .exit)) ⌝ }
 {
     let place = error_place(reduction, v0, v1, run.len);
@@ -90,5 +90,5 @@ fn correct_line(s: &mut [u8], reduction: u8, run: Run, t: usize, v0: u8, v1: u8)
         return;
     };
     let p = run.first + run.stride * j + t;
-    s[p] = s[p] ^ v0;
+    s[p] = field::add(s[p], v0);
 }

@@ -1,4 +1,4 @@
-// Codewords whose data places stand elsewhere: each place is copied and summed in the same turn, so that memory and arithmetic work
+// Lines whose data places stand elsewhere, encoded: each place is copied and summed in the same turn, so that memory and arithmetic work
 // side by side.
 use crate::Erasures;
 use crate::Run;
@@ -7,11 +7,11 @@ use crate::strip;
 ghost use mathlib.Core.Path.{_≡_};
 ghost use Prim.Native.Nat.{_+_, _-_, _≤_};
 ghost use lib.ListN.{length, replicate};
-ghost use Rattle.field.specs.Field.{Primitive};
 ghost use Rattle.line.specs.Run.{Inside, Feeds, Encoded, erasuresAt};
-ghost use Rattle.line.specs.Block.{part, Syndromes, Placed};
+ghost use Rattle.line.specs.Inner.Block.{part, Syndromes};
+ghost use Rattle.line.specs.Inner.Encoder.{DataPlaced};
 
-// The codewords of every line of the run `to`. Strips pay where few places are read side by side; else the places are copied first.
+// Encodes every line of the run `to`. Strips pay where few places are read side by side; else the places are copied first.
 pub(crate) fn encode_blocks(
     data: &[u8],
     s: &mut [u8],
@@ -20,7 +20,7 @@ pub(crate) fn encode_blocks(
     to: Run,
     e: Erasures,
 )
-    requires { ⌜ (Primitive reduction) × (Inside to (length (now s))) × (Feeds from to (length (now «data»))) × (e ≡ erasuresAt reduction (to .len - 2) (to .len - 1)) ⌝ }
+    requires { ⌜ (Inside to (length (now s))) × (Feeds from to (length (now «data»))) × (e ≡ erasuresAt reduction (to .len - 2) (to .len - 1)) ⌝ }
     ensures { λ r. ⌜ Encoded reduction from to (now («data» .entry)) (now (s .entry)) (now (s .exit)) ⌝ }
 {
     if to.len <= 32 && 64 <= to.width {
@@ -33,7 +33,7 @@ pub(crate) fn encode_blocks(
 
 // Strip by strip; the last one may begin before the lines that are done, and encodes them once more.
 fn encode_strips(data: &[u8], s: &mut [u8], reduction: u8, from: Run, to: Run, e: Erasures)
-    requires { ⌜ (Primitive reduction) × (Inside to (length (now s))) × (Feeds from to (length (now «data»))) × (e ≡ erasuresAt reduction (to .len - 2) (to .len - 1)) × (64 ≤ to .width) ⌝ }
+    requires { ⌜ (Inside to (length (now s))) × (Feeds from to (length (now «data»))) × (e ≡ erasuresAt reduction (to .len - 2) (to .len - 1)) × (64 ≤ to .width) ⌝ }
     ensures { λ r. ⌜ Encoded reduction from to (now («data» .entry)) (now (s .entry)) (now (s .exit)) ⌝ }
 {
     let last = to.width - 64;
@@ -47,7 +47,7 @@ fn encode_strips(data: &[u8], s: &mut [u8], reduction: u8, from: Run, to: Run, e
 
 // The 64 lines from line a on.
 fn encode_strip(data: &[u8], s: &mut [u8], reduction: u8, from: Run, to: Run, a: usize, e: Erasures)
-    requires { ⌜ (Primitive reduction) × (Inside to (length (now s))) × (Feeds from to (length (now «data»))) × (e ≡ erasuresAt reduction (to .len - 2) (to .len - 1)) × (a + 64 ≤ to .width) ⌝ }
+    requires { ⌜ (Inside to (length (now s))) × (Feeds from to (length (now «data»))) × (e ≡ erasuresAt reduction (to .len - 2) (to .len - 1)) × (a + 64 ≤ to .width) ⌝ }
     ensures { λ r. ⌜ Encoded reduction (part from a 64) (part to a 64) (now («data» .entry)) (now (s .entry)) (now (s .exit)) ⌝ }
 {
     let source = block::lines_from(from, a, 64);
@@ -69,7 +69,7 @@ fn place_strip(
     to: Run,
 )
     requires { ⌜ (Inside to (length (now s))) × (Feeds from to (length (now «data»))) × (to .width ≡ 64) × (now s0 ≡ replicate 64 0) × (now s1 ≡ replicate 64 0) ⌝ }
-    ensures { λ r. ⌜ Placed from to (now («data» .entry)) (now (s .entry)) (now (s .exit)) × Syndromes reduction from (now («data» .entry)) (now (s0 .exit)) (now (s1 .exit)) ⌝ }
+    ensures { λ r. ⌜ DataPlaced from to (now («data» .entry)) (now (s .entry)) (now (s .exit)) × Syndromes reduction from (now («data» .entry)) (now (s0 .exit)) (now (s1 .exit)) ⌝ }
 {
     let mut left = from.len;
     while 0 < left {
@@ -87,7 +87,7 @@ fn place_strip(
 // Copies the data places of every line.
 fn place(data: &[u8], s: &mut [u8], from: Run, to: Run)
     requires { ⌜ (Inside to (length (now s))) × (Feeds from to (length (now «data»))) ⌝ }
-    ensures { λ r. ⌜ Placed from to (now («data» .entry)) (now (s .entry)) (now (s .exit)) ⌝ }
+    ensures { λ r. ⌜ DataPlaced from to (now («data» .entry)) (now (s .entry)) (now (s .exit)) ⌝ }
 {
     let places = from.len;
     let mut i = 0;

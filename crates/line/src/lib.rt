@@ -1,4 +1,5 @@
-// Lines: both syndromes of many neighbouring lines at once, erasures filled in, codewords recognised. Every public function is total.
+// Lines: both syndromes of many neighbouring lines at once, erasures filled in, codewords written and recognised, single errors
+// corrected. Every public function is total, and exact for every reduction byte.
 mod block;
 mod corrector;
 mod encoder;
@@ -7,9 +8,8 @@ mod strip;
 mod wide;
 
 ghost use mathlib.Core.Path.{_≡_};
-ghost use Rattle.field.specs.Field.{reduction};
-ghost use Rattle.line.specs.Run.{erasuresAt, SolveOutcome, EncodeOutcome, CodewordsOutcome, CorrectOutcome, PlaceOutcome, Inside};
-ghost use Rattle.line.specs.Block.{Decides};
+ghost use Rattle.line.specs.Run.{erasuresAt, SolveRun, EncodeRun, CheckRun, CorrectRun, Inside};
+ghost use Rattle.span.specs.Decision.{Decides};
 
 // Neighbouring lines of one length: place i of line t is the byte first + stride * i + t, for t below width.
 pub struct Run {
@@ -20,25 +20,25 @@ pub struct Run {
 }
 
 // Where a single error stands on a line.
-pub enum Place {
+enum Place {
     At(usize),
     Nowhere,
 }
 
 // The erasures j ≤ k of each line of a run, one erasure where they are equal, with the row [b, d] of the inverted array that gives
-// the byte at k.
+// the byte at k. Only `erasures_at` builds one.
 pub struct Erasures {
-    pub j: usize,
-    pub k: usize,
-    pub b: u8,
-    pub d: u8,
+    j: usize,
+    k: usize,
+    b: u8,
+    d: u8,
 }
 
 // The erasures j and k: inverts their array once for all lines.
-pub fn erasures_at(j: u8, k: u8) -> Erasures
+pub fn erasures_at(reduction: u8, j: u8, k: u8) -> Erasures
     ensures { λ r. ⌜ r ≡ erasuresAt reduction j k ⌝ }
 {
-    let row = solver::second_row(field::reduction(), j as usize, k as usize);
+    let row = solver::second_row(reduction, j as usize, k as usize);
     Erasures {
         j: j as usize,
         k: k as usize,
@@ -48,8 +48,8 @@ pub fn erasures_at(j: u8, k: u8) -> Erasures
 }
 
 // Fills in the erasures of every line of the run, whatever bytes stand there.
-pub fn solve(s: &mut [u8], run: Run, e: Erasures) -> bool
-    ensures { λ r. ⌜ SolveOutcome reduction run e (now (s .entry)) (now (s .exit)) r ⌝ }
+pub fn solve(s: &mut [u8], reduction: u8, run: Run, e: Erasures) -> bool
+    ensures { λ r. ⌜ SolveRun reduction run e (now (s .entry)) (now (s .exit)) r ⌝ }
 {
     let n = s.len();
     if !inside(n, run) {
@@ -61,13 +61,13 @@ pub fn solve(s: &mut [u8], run: Run, e: Erasures) -> bool
     if run.len <= e.k {
         return false;
     }
-    block::solve_blocks(s, field::reduction(), run, e);
+    block::solve_blocks(s, reduction, run, e);
     true
 }
 
-// Writes codewords: the data places of each line of `to` are the line of `from` in `data`, the last two places are parity.
-pub fn encode(data: &[u8], s: &mut [u8], from: Run, to: Run) -> bool
-    ensures { λ r. ⌜ EncodeOutcome reduction from to (now («data» .entry)) (now (s .entry)) (now (s .exit)) r ⌝ }
+// Encodes lines: the data places of each line of `to` are the line of `from` in `data`, the last two places are parity.
+pub fn encode(data: &[u8], s: &mut [u8], reduction: u8, from: Run, to: Run) -> bool
+    ensures { λ r. ⌜ EncodeRun reduction from to (now («data» .entry)) (now (s .entry)) (now (s .exit)) r ⌝ }
 {
     let n = s.len();
     if !inside(n, to) {
@@ -84,39 +84,32 @@ pub fn encode(data: &[u8], s: &mut [u8], from: Run, to: Run) -> bool
         return false;
     }
     let last = (to.len - 1) as u8;
-    let e = erasures_at(last - 1, last);
-    encoder::encode_blocks(data, s, field::reduction(), from, to, e);
+    let e = erasures_at(reduction, last - 1, last);
+    encoder::encode_blocks(data, s, reduction, from, to, e);
     true
 }
 
 // Whether every line of the run is a codeword.
-pub fn codewords(s: &[u8], run: Run) -> bool
-    ensures { λ r. ⌜ CodewordsOutcome reduction run (now (s .entry)) r ⌝ }
+pub fn codewords(s: &[u8], reduction: u8, run: Run) -> bool
+    ensures { λ r. ⌜ CheckRun reduction run (now (s .entry)) r ⌝ }
 {
     let n = s.len();
     if !inside(n, run) {
         return false;
     }
-    block::codeword_blocks(s, field::reduction(), run)
+    block::codeword_blocks(s, reduction, run)
 }
 
 // Corrects a single error in each line of the run.
-pub fn correct(s: &mut [u8], run: Run) -> bool
-    ensures { λ r. ⌜ CorrectOutcome reduction run (now (s .entry)) (now (s .exit)) r ⌝ }
+pub fn correct(s: &mut [u8], reduction: u8, run: Run) -> bool
+    ensures { λ r. ⌜ CorrectRun reduction run (now (s .entry)) (now (s .exit)) r ⌝ }
 {
     let n = s.len();
     if !inside(n, run) {
         return false;
     }
-    corrector::correct_blocks(s, field::reduction(), run);
+    corrector::correct_blocks(s, reduction, run);
     true
-}
-
-// The place of a single error on a line of length n with the syndromes v0 and v1.
-pub fn error_place(v0: u8, v1: u8, n: usize) -> Place
-    ensures { λ r. ⌜ PlaceOutcome reduction v0 v1 n r ⌝ }
-{
-    corrector::error_place(field::reduction(), v0, v1, n)
 }
 
 // Whether the run lies inside n bytes. The quotient avoids a product that could wrap.

@@ -2,7 +2,7 @@
 ghost use mathlib.Core.Path.{_≡_};
 ghost use mathlib.Core.List.{[], _∷_};
 ghost use Rattle.line.specs.Line.{row0, row1};
-ghost use Rattle.line.specs.Solver.{entry, inverted};
+ghost use Rattle.line.specs.Inner.Solver.{entry, inverted};
 
 // The inverse of the array m, rows first; where its determinant is 0, all 0.
 fn invert(reduction: u8, m: [[u8; 2]; 2]) -> [[u8; 2]; 2]

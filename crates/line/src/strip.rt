@@ -9,7 +9,9 @@ ghost use Rattle.span.specs.Span.{Copied, Piece};
 ghost use Rattle.field.specs.Field.{add, mul};
 ghost use Rattle.line.specs.Line.{Codeword};
 ghost use Rattle.line.specs.Run.{Inside, lineAt};
-ghost use Rattle.line.specs.Block.{Decides, Step, Syndromes, Combined, Combining, AllZero};
+ghost use Rattle.span.specs.Decision.{Decides};
+ghost use Rattle.line.specs.Inner.Strip.{Step};
+ghost use Rattle.line.specs.Inner.Block.{Syndromes, Combined, Combining, AllZero};
 
 // Writes both erasures of each line of `run` from the syndromes of the lines of `read`.
 pub(crate) fn solve(s: &mut [u8], reduction: u8, read: Run, run: Run, e: Erasures)

@@ -6,7 +6,9 @@ ghost use Prim.Native.Nat.{ℕ, _+_, _*_, _/_, _<_, _≤_, min};
 ghost use lib.ListN.{length, replicate};
 ghost use Rattle.line.specs.Line.{Codeword};
 ghost use Rattle.line.specs.Run.{Inside, lineAt};
-ghost use Rattle.line.specs.Block.{Decides, Tails, Syndromes, One, Four, Combined, Combining, AllZero};
+ghost use Rattle.span.specs.Decision.{Decides};
+ghost use Rattle.line.specs.Inner.Wide.{Tails, One, Four};
+ghost use Rattle.line.specs.Inner.Block.{Syndromes, Combined, Combining, AllZero};
 
 // Writes both erasures of each line of `run` from the syndromes of the lines of `read`.
 pub(crate) fn solve(s: &mut [u8], reduction: u8, read: Run, run: Run, e: Erasures)

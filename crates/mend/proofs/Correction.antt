@@ -7,12 +7,13 @@ use native.Mathlib.Nat.{mul-le-mul-right}
 use native.Mathlib.Decide.{decLt}
 use native.Mathlib.Omega.{arith}
 use lib.ListN.{length, getD}
-use Rattle.cube.specs.declared.Shape.{Shape}
-use Rattle.cube.specs.declared.Line.{Line}
-use Rattle.cube.specs.declared.LineAnswer.the-variants.{Found}
-use Rattle.cube.specs.Shapes.{linesOf, firstOf, lineOf}
+use Rattle.answer.specs.Values.{passes}
+use Rattle.shape.specs.declared.Shape.{Shape}
+use Rattle.shape.specs.declared.Line.{Line}
+use Rattle.shape.specs.Shapes.{Valid, linesOf, firstOf, lineOf}
+use Rattle.shape.proofs.Geometry.{axis-line-every}
 use Rattle.cube.specs.Cube.{layer, layerLine}
-use Rattle.cube.proofs.AxisRuns.{located, Begins, runFrom, lineBeside, lineAt-run, beside-is, layer-below, run-end}
+use Rattle.cube.proofs.AxisRuns.{Begins, runFrom, lineBeside, lineAt-run, beside-is, layer-below, run-end}
 use Rattle.mend.specs.Mend.{Pass}
 use Rattle.line.specs.Line.{corrected}
 use Rattle.line.specs.Run.{Off, Corrected}
@@ -25,7 +26,7 @@ corrected-cong r n x y h i l = rw (syndrome0-cong x y n h, syndrome1-cong r x y 
 pub record Through (r : ℕ) (sh : Shape) (axis n : ℕ) (xs ys : List ℕ) : Type 0 where
   pub size : length ys ≡ length xs
   pub lines :
-      (m : ℕ) (l : Line) → m < n → lineOf sh axis m ≡ Found l → (w i : ℕ) → w < sh .w → i < l .len →
+      (m : ℕ) (l : Line) → m < n → lineOf sh axis m ≡ passes l → (w i : ℕ) → w < sh .w → i < l .len →
       layer sh ys w (l .first + l .stride * i) ≡
       corrected r (l .len) (layerLine sh xs w (l .first) (l .stride)) i
   pub rest : (p : ℕ) → firstOf sh axis n * sh .w ≤ p → getD ys p 0 ≡ getD xs p 0
@@ -34,9 +35,13 @@ module _ (r : ℕ) (sh : Shape) (axis : ℕ) (xs : List ℕ) where
   pub through-none : Through r sh axis 0 xs xs
   through-none = record { size = refl; lines = λ m l less. absurd (omega arith); rest = λ p le. refl }
 
-  pub through-all : (n : ℕ) (ys : List ℕ) → linesOf sh axis ≤ n → Through r sh axis n xs ys → Pass r sh axis xs ys
-  through-all n ys le h =
-      record { size = h .size; lines = λ m l e. h .lines m l (omega (arith, located sh axis m l e .below)) e }
+  pub through-all : (n : ℕ) (ys : List ℕ) → Valid sh → linesOf sh axis ≤ n → Through r sh axis n xs ys → Pass r sh axis xs ys
+  through-all n ys v le h =
+      record {
+        size = h .size;
+        lines = λ first stride len l.
+            let (m, low, high, below, e) = axis-line-every sh axis first stride len v l in h .lines m _ (omega arith) e;
+      }
 
   module _ (m : ℕ) (l : Line) (b : Begins sh axis m l) (ys zs : List ℕ) (h : Through r sh axis m xs ys) (run : Corrected r (runFrom (sh .w) l) ys zs) where
     -- bytes before the run and after it are kept

@@ -9,26 +9,24 @@ use native.Mathlib.Omega.{arith}
 use lib.Arith.{digits-div}
 use lib.ListN.{length, getD}
 use lib.Seq.{ext-getD}
-use Rattle.field.specs.Field.{reduction, Primitive}
+use Rattle.answer.specs.Values.{Value, refused}
+use Rattle.answer.proofs.Values.{fails-injective, passes-fails}
+use Rattle.field.specs.Field.{Primitive}
 use Rattle.line.specs.Line.{corrected}
 use Rattle.line.proofs.Error.{corrected-codeword-same, corrected-one}
-use Rattle.cube.specs.declared.Shape.{Shape}
-use Rattle.cube.specs.declared.Line.{Line}
-use Rattle.cube.specs.declared.LineAnswer.the-variants.{Found}
-use Rattle.cube.specs.declared.Answer.{Answer}
-use Rattle.cube.specs.declared.Answer.the-variants.{Done, Refused}
-use Rattle.cube.specs.Shapes.{Valid, cells, strideOf, lengthOf, lineOf}
+use Rattle.shape.specs.declared.Shape.{Shape}
+use Rattle.shape.specs.declared.Line.{Line}
+use Rattle.shape.specs.Shapes.{Valid, cells, strideOf, lengthOf, linesOf, firstOf, AxisLine, along}
+use Rattle.shape.proofs.Geometry.{placeAt-lt, strideOf-pos, lengthOf-low, On, placeOn, on-place, line-through, line-is, line-passed, axis-line-every, line-length-high}
 use Rattle.cube.specs.Cube.{layer, layerLine, CodeCube}
-use Rattle.cube.proofs.Geometry.{placeAt-lt, strideOf-pos, lengthOf-low, On, placeOn, on-place, line-through, line-of, line-found, line-length-high}
-use Rattle.cube.proofs.AxisRuns.{located}
-use Rattle.mend.specs.Mend.{Pass, Passes, PassOutcome, CorrectOutcome, refused, mended, uncorrected}
-use Rattle.mend.proofs.Checks.{refused-done, done-refused, pass-ready, ready}
+use Rattle.mend.specs.Mend.{Pass, Passes, AxisOutcome, axis-refused, axis-done, MendOutcome, mend-refused, mend-done, mend-uncorrected}
+use Rattle.mend.proofs.Checks.{axis-mend-ready, mend-ready}
 
 module _ (sh : Shape) (v : Valid sh) (axis : ℕ) (low : 1 ≤ axis) (high : axis ≤ 3) where
   -- lists of W bytes a cell that agree on every line of an axis in every layer are equal
   pub lines-ext : (xs ys : List ℕ) → length xs ≡ sh .w * cells sh → length ys ≡ length xs
-      → ((m : ℕ) (l : Line) → lineOf sh axis m ≡ Found l → (w i : ℕ) → w < sh .w → i < l .len
-      → layer sh ys w (l .first + l .stride * i) ≡ layer sh xs w (l .first + l .stride * i))
+      → ((first stride len : ℕ) → AxisLine sh axis first stride len → (w i : ℕ) → w < sh .w → i < len
+      → layer sh ys w (first + stride * i) ≡ layer sh xs w (first + stride * i))
       → ys ≡ xs
   unfolding layer
   lines-ext xs ys size same agree = ext-getD 0 ys xs same byte
@@ -38,7 +36,7 @@ module _ (sh : Shape) (v : Valid sh) (axis : ℕ) (low : 1 ≤ axis) (high : axi
           let n : ℕ = p / sh .w in
           let inside : p < cells sh * sh .w = omega (arith, mul-comm (cells sh) (sh .w)) in
           let on = line-through sh axis n v (div-lt-iff-lt-mul (v .w-low) .1 inside) in
-          let here = agree _ _ (line-of sh axis _ v low high (on .line-lt)) (p % sh .w) _ (mod-lt p (v .w-low)) (on .place-lt) in
+          let here = agree _ _ _ (line-is sh axis _ v low high (on .line-lt)) (p % sh .w) _ (mod-lt p (v .w-low)) (on .place-lt) in
           rw (← on .here, div-add-mod' p (sh .w)) at here
 
   module _ (r : ℕ) (xs : List ℕ) (size : length xs ≡ sh .w * cells sh) where
@@ -46,55 +44,54 @@ module _ (sh : Shape) (v : Valid sh) (axis : ℕ) (low : 1 ≤ axis) (high : axi
     pub pass-determined : (ys zs : List ℕ) → Pass r sh axis xs ys → Pass r sh axis xs zs → ys ≡ zs
     pass-determined ys zs p q =
         lines-ext zs ys (q .size ∙ size) (p .size ∙ sym (q .size))
-        (λ m l e w i lw li. p .lines m l e w i lw li ∙ sym (q .lines m l e w i lw li))
+        (λ f s n l w i lw li. p .lines f s n l w i lw li ∙ sym (q .lines f s n l w i lw li))
 
     -- a code cube is left as it is
     pub code-cube-kept : (ys : List ℕ) → CodeCube r sh xs → Pass r sh axis xs ys → ys ≡ xs
     unfolding layerLine
     code-cube-kept ys code p =
         lines-ext xs ys size (p .size)
-        (λ m l e w i lw li.
-        p .lines m l e w i lw li ∙ corrected-codeword-same r (l .len) _ (code .lines _ _ _ (line-found sh axis m l e) w lw) i)
+        (λ f s n l w i lw li. p .lines f s n l w i lw li ∙ corrected-codeword-same r n _ (code .lines f s n (along l) w lw) i)
 
-    -- and is its own pass
-    pub code-cube-pass : CodeCube r sh xs → Pass r sh axis xs xs
-    unfolding layerLine
-    code-cube-pass code =
-        record {
-          size = refl;
-          lines = λ m l e w i lw li. sym (corrected-codeword-same r (l .len) _ (code .lines _ _ _ (line-found sh axis m l e) w lw) i);
-        }
+-- and is its own pass
+pub code-cube-pass : (r : ℕ) (sh : Shape) (axis : ℕ) (xs : List ℕ) → CodeCube r sh xs → Pass r sh axis xs xs
+unfolding layerLine
+code-cube-pass r sh axis xs code =
+    record {
+      size = refl;
+      lines = λ f s n l w i lw li. sym (corrected-codeword-same r n _ (code .lines f s n (along l) w lw) i);
+    }
 
 -- ---- a line with at most one wrong byte
 
-module _ (r : ℕ) (prim : Primitive r) (sh : Shape) (axis : ℕ) (xs zs : List ℕ) (bx : (p : ℕ) → getD xs p 0 < 256) (bz : (p : ℕ) → getD zs p 0 < 256)
+-- the two cubes agree on a line in layer w but for place j
+unfoldable pub AgreeBut : Shape → (xs zs : List ℕ) → (first stride len w j : ℕ) → Type 0
+AgreeBut sh xs zs first stride len w j =
+    (i : ℕ) → i < len → i ≢ j → layer sh xs w (first + stride * i) ≡ layer sh zs w (first + stride * i)
+
+module _ (r : ℕ) (prim : Primitive r) (sh : Shape) (v : Valid sh) (axis : ℕ) (xs zs : List ℕ) (bytes : (p : ℕ) → getD xs p 0 < 256)
     (code : CodeCube r sh zs) where
-  corrected-restored : (m : ℕ) (l : Line) → lineOf sh axis m ≡ Found l → (w : ℕ) → w < sh .w → (j : ℕ) → j < l .len
-      → ((i : ℕ) → i < l .len → i ≢ j → layer sh xs w (l .first + l .stride * i) ≡ layer sh zs w (l .first + l .stride * i))
-      → (i : ℕ) → i < l .len → corrected r (l .len) (layerLine sh xs w (l .first) (l .stride)) i ≡ layer sh zs w (l .first + l .stride * i)
-  unfolding layer layerLine
-  corrected-restored m l e w lw j lj agree i li =
-      let line = line-found sh axis m l e in
-      corrected-one r (l .len) _ _ j (code .lines _ _ _ line w lw) lj agree prim (line-length-high sh _ _ _ (located sh axis m l e .valid) line)
-      (λ k lk. bx _) (λ k lk. bz _) i li
+  corrected-restored : (f s n : ℕ) → AxisLine sh axis f s n → (w : ℕ) → w < sh .w → (j : ℕ) → j < n → AgreeBut sh xs zs f s n w j
+      → (i : ℕ) → i < n → corrected r n (layerLine sh xs w f s) i ≡ layer sh zs w (f + s * i)
+  unfolding layer layerLine AgreeBut
+  corrected-restored f s n l w lw j lj agree i li =
+      corrected-one r n _ _ j (code .lines f s n (along l) w lw) lj agree prim (line-length-high sh f s n v (along l)) (λ k lk. bytes _)
+      (λ k lk. code .bytes _) i li
 
   -- on a line and a layer where the cube differs from a code cube in one place at most, the pass of that axis gives the code cube's bytes
-  pub line-restored : (ys : List ℕ) → Pass r sh axis xs ys → (m : ℕ) (l : Line) → lineOf sh axis m ≡ Found l → (w : ℕ) → w < sh .w
-      → (j : ℕ) → j < l .len
-      → ((i : ℕ) → i < l .len → i ≢ j → layer sh xs w (l .first + l .stride * i) ≡ layer sh zs w (l .first + l .stride * i))
-      → (i : ℕ) → i < l .len → layer sh ys w (l .first + l .stride * i) ≡ layer sh zs w (l .first + l .stride * i)
-  line-restored ys p m l e w lw j lj agree i li = p .lines m l e w i lw li ∙ corrected-restored m l e w lw j lj agree i li
+  pub line-restored : (ys : List ℕ) → Pass r sh axis xs ys → (f s n : ℕ) → AxisLine sh axis f s n → (w : ℕ) → w < sh .w → (j : ℕ) → j < n
+      → AgreeBut sh xs zs f s n w j → (i : ℕ) → i < n → layer sh ys w (f + s * i) ≡ layer sh zs w (f + s * i)
+  line-restored ys p f s n l w lw j lj agree i li = p .lines f s n l w i lw li ∙ corrected-restored f s n l w lw j lj agree i li
 
   -- where no line of an axis has more than one wrong byte in a layer, its pass restores the cube
   pub pass-restores : length zs ≡ length xs
-      → ((m : ℕ) (l : Line) → lineOf sh axis m ≡ Found l → (w : ℕ) → w < sh .w
-      → (j : ℕ) × (j < l .len) × ((i : ℕ) → i < l .len → i ≢ j → layer sh xs w (l .first + l .stride * i) ≡ layer sh zs w (l .first + l .stride * i)))
+      → ((f s n : ℕ) → AxisLine sh axis f s n → (w : ℕ) → w < sh .w → (j : ℕ) × (j < n) × AgreeBut sh xs zs f s n w j)
       → Pass r sh axis xs zs
   pass-restores size single =
       record {
         size = size;
-        lines = λ m l e w i lw li.
-            let (j, lj, agree) = single m l e w lw in sym (corrected-restored m l e w lw j lj agree i li);
+        lines = λ f s n l w i lw li.
+            let (j, lj, agree) = single f s n l w lw in sym (corrected-restored f s n l w lw j lj agree i li);
       }
 
 -- ---- the three passes
@@ -114,64 +111,67 @@ module _ (r : ℕ) (sh : Shape) (v : Valid sh) (xs : List ℕ) (size : length xs
       code-cube-kept sh v 3 (omega arith) (omega arith) r xs size ys code (rw two at (p .pass3))
 
 -- a wrong byte by itself is restored
-module _ (sh : Shape) (v : Valid sh) (axis : ℕ) (xs zs : List ℕ) (q : ℕ) (agree : (p : ℕ) → p ≢ q → getD xs p 0 ≡ getD zs p 0) where
-  -- the wrong byte is at most one place of a line
-  off-place : (m : ℕ) (l : Line) → lineOf sh axis m ≡ Found l → (w : ℕ) → w < sh .w → (i : ℕ) → i < l .len → i ≢ placeOn sh axis (q / sh .w)
-      → layer sh xs w (l .first + l .stride * i) ≡ layer sh zs w (l .first + l .stride * i)
-  unfolding layer
-  off-place m l e w lw i li ne = agree _ (λ same. ne (here same))
+module _ (sh : Shape) (v : Valid sh) (axis : ℕ) (xs zs : List ℕ) (q : ℕ) (agree : (p : ℕ) → p ≢ q → getD xs p 0 ≡ getD zs p 0)
+    (f s n : ℕ) (l : AxisLine sh axis f s n) where
+  -- a line of the axis is the one of some number
+  numbered : (m : ℕ) × (m < linesOf sh axis) × (n ≡ lengthOf sh axis) × ((i : ℕ) → f + s * i ≡ firstOf sh axis m + strideOf sh axis * i)
+  numbered =
+      let (m, low, high, below, e) = axis-line-every sh axis f s n v l in
+      let same = line-passed sh axis m _ e .4 in
+      (m, below, ap (λ (x : Line). x .len) same, λ i. ap (λ (x : Line). x .first + x .stride * i) same)
+
+  -- the wrong byte is at most one place of it
+  off-place : (w : ℕ) → w < sh .w → AgreeBut sh xs zs f s n w (placeOn sh axis (q / sh .w))
+  unfolding layer AgreeBut
+  off-place w lw i li ne = agree _ (λ same. ne (here same))
     where
-      here : (l .first + l .stride * i) * sh .w + w ≡ q → i ≡ placeOn sh axis (q / sh .w)
+      here : (f + s * i) * sh .w + w ≡ q → i ≡ placeOn sh axis (q / sh .w)
       here same =
-          let at = located sh axis m l e in
-          let on : On sh axis (l .first + l .stride * i) m i =
-          rw (at .same) (record { line-lt = at .below; place-lt = rw (at .same) at li; here = refl }) in
-          on-place sh axis _ m i v on ∙ ap (placeOn sh axis) (sym (digits-div (l .first + l .stride * i) lw) ∙ ap (λ (n : ℕ). n / sh .w) same)
+          let (m, below, length, cell) = numbered in
+          let on : On sh axis (f + s * i) m i = record { line-lt = below; place-lt = rw length at li; here = cell i } in
+          on-place sh axis _ m i v on ∙ ap (placeOn sh axis) (sym (digits-div (f + s * i) lw) ∙ ap (λ (k : ℕ). k / sh .w) same)
 
-  place-here : (m : ℕ) (l : Line) → lineOf sh axis m ≡ Found l → placeOn sh axis (q / sh .w) < l .len
+  place-here : placeOn sh axis (q / sh .w) < n
   unfolding placeOn
-  place-here m l e =
-      rw (located sh axis m l e .same)
-      (placeAt-lt (strideOf sh axis) (lengthOf sh axis) (strideOf-pos sh axis v) (q / sh .w) (omega (arith, lengthOf-low sh axis v)))
+  place-here =
+      let (m, below, length, cell) = numbered in
+      rw length (placeAt-lt (strideOf sh axis) (lengthOf sh axis) (strideOf-pos sh axis v) (q / sh .w) (omega (arith, lengthOf-low sh axis v)))
 
-pub byte-restored : (r : ℕ) → Primitive r → (sh : Shape) → Valid sh → (xs zs : List ℕ) → ((p : ℕ) → getD xs p 0 < 256) → ((p : ℕ) → getD zs p 0 < 256)
+pub byte-restored : (r : ℕ) → Primitive r → (sh : Shape) → Valid sh → (xs zs : List ℕ) → ((p : ℕ) → getD xs p 0 < 256)
     → CodeCube r sh zs → length zs ≡ length xs → (q : ℕ) → ((p : ℕ) → p ≢ q → getD xs p 0 ≡ getD zs p 0) → Passes r sh xs zs
-byte-restored r prim sh v xs zs bx bz code size q agree =
+byte-restored r prim sh v xs zs bytes code size q agree =
     record {
       after1 = zs;
       after2 = zs;
       pass1 =
-          pass-restores r prim sh 1 xs zs bx bz code size
-          (λ m l e w lw. (placeOn sh 1 (q / sh .w), place-here sh v 1 xs zs q agree m l e, off-place sh v 1 xs zs q agree m l e w lw));
-      pass2 = code-cube-pass sh v 2 (omega arith) (omega arith) r zs (code .size) code;
-      pass3 = code-cube-pass sh v 3 (omega arith) (omega arith) r zs (code .size) code;
+          pass-restores r prim sh v 1 xs zs bytes code size
+          (λ f s n l w lw. (placeOn sh 1 (q / sh .w), place-here sh v 1 xs zs q agree f s n l, off-place sh v 1 xs zs q agree f s n l w lw));
+      pass2 = code-cube-pass r sh 2 zs code;
+      pass3 = code-cube-pass r sh 3 zs code;
     }
 
 -- ---- the contracts determine the answer and the memory
 
-after-pass : (sh : Shape) (axis : ℕ) (xs ys zs : List ℕ) (a b : Answer) → a ≡ b → PassOutcome sh axis xs ys a → PassOutcome sh axis xs zs b → ys ≡ zs
-after-pass sh axis xs ys zs Done b e p q =
-    let ok = pass-ready sh axis (length xs) (sym (p .checks)) in
-    pass-determined sh (ok .valid) axis (ok .low) (ok .high) reduction xs (ok .size) ys zs (p .pass refl) (q .pass (sym e))
-after-pass sh axis xs ys zs (Refused f) b e p q = p .kept f refl ∙ sym (q .kept f (sym e))
+pub axis-outcome-determined : {r : ℕ} {sh : Shape} {axis : ℕ} {xs ys zs : List ℕ} {a b : Value Unit}
+    → AxisOutcome r sh axis xs ys a → AxisOutcome r sh axis xs zs b → (a ≡ b) × (ys ≡ zs)
+axis-outcome-determined (axis-refused m e p) (axis-refused n f q) = (ap refused (fails-injective m n (sym e ∙ f)), p ∙ sym q)
+axis-outcome-determined (axis-refused m e p) (axis-done f q) = absurd (passes-fails tt m (sym f ∙ e))
+axis-outcome-determined (axis-done e p) (axis-refused n f q) = absurd (passes-fails tt n (sym e ∙ f))
+axis-outcome-determined {r} {sh} {axis} {xs} {ys} {zs} (axis-done e p) (axis-done f q) =
+    let ok = axis-mend-ready sh axis (length xs) e in
+    (refl, pass-determined sh (ok .valid) axis (ok .low) (ok .high) r xs (ok .size) ys zs p q)
 
-pub pass-outcome-determined : (sh : Shape) (axis : ℕ) (xs ys zs : List ℕ) (a b : Answer) → PassOutcome sh axis xs ys a → PassOutcome sh axis xs zs b
-    → (a ≡ b) × (ys ≡ zs)
-pass-outcome-determined sh axis xs ys zs a b p q =
-    let same = p .checks ∙ sym (q .checks) in
-    (same, after-pass sh axis xs ys zs a b same p q)
-
-pub outcome-determined : (sh : Shape) (xs fs before ys zs : List ℕ) (a b : Answer) → CorrectOutcome sh xs fs before ys a → CorrectOutcome sh xs fs before zs b
-    → (a ≡ b) × (ys ≡ zs)
-outcome-determined sh xs fs before ys zs _ _ (refused f e p) (refused g h q) = (sym e ∙ h, p ∙ sym q)
-outcome-determined sh xs fs before ys zs _ _ (refused f e p) (mended h q c) = absurd (refused-done f (sym e ∙ h))
-outcome-determined sh xs fs before ys zs _ _ (refused f e p) (uncorrected h us q c z) = absurd (refused-done f (sym e ∙ h))
-outcome-determined sh xs fs before ys zs _ _ (mended e p c) (refused g h q) = absurd (done-refused g (sym e ∙ h))
-outcome-determined sh xs fs before ys zs _ _ (mended e p c) (mended h q d) =
-    let ok = ready sh _ fs _ e in (refl, passes-determined reduction sh (ok .valid) xs (ok .size) ys zs p q)
-outcome-determined sh xs fs before ys zs _ _ (mended e p c) (uncorrected h us q d z) =
-    let ok = ready sh _ fs _ e in absurd (d (rw (passes-determined reduction sh (ok .valid) xs (ok .size) us ys q p) c))
-outcome-determined sh xs fs before ys zs _ _ (uncorrected e us p c y) (refused g h q) = absurd (done-refused g (sym e ∙ h))
-outcome-determined sh xs fs before ys zs _ _ (uncorrected e us p c y) (mended h q d) =
-    let ok = ready sh _ fs _ e in absurd (c (rw (passes-determined reduction sh (ok .valid) xs (ok .size) us zs p q) d))
-outcome-determined sh xs fs before ys zs _ _ (uncorrected e us p c y) (uncorrected h ts q d z) = (refl, y ∙ sym z)
+pub outcome-determined : {r : ℕ} {sh : Shape} {xs fs before ys zs : List ℕ} {a b : Value Unit}
+    → MendOutcome r sh xs fs before ys a → MendOutcome r sh xs fs before zs b → (a ≡ b) × (ys ≡ zs)
+outcome-determined (mend-refused m e p) (mend-refused n f q) = (ap refused (fails-injective m n (sym e ∙ f)), p ∙ sym q)
+outcome-determined (mend-refused m e p) (mend-done f q c) = absurd (passes-fails tt m (sym f ∙ e))
+outcome-determined (mend-refused m e p) (mend-uncorrected f us q c z) = absurd (passes-fails tt m (sym f ∙ e))
+outcome-determined (mend-done e p c) (mend-refused n f q) = absurd (passes-fails tt n (sym e ∙ f))
+outcome-determined {r} {sh} {xs} {fs} {before} {ys} {zs} (mend-done e p c) (mend-done f q d) =
+    let ok = mend-ready sh _ fs _ e in (refl, passes-determined r sh (ok .valid) xs (ok .size) ys zs p q)
+outcome-determined {r} {sh} {xs} {fs} {before} {ys} (mend-done e p c) (mend-uncorrected f us q d z) =
+    let ok = mend-ready sh _ fs _ e in absurd (d (rw (passes-determined r sh (ok .valid) xs (ok .size) us ys q p) c))
+outcome-determined (mend-uncorrected e us p c y) (mend-refused n f q) = absurd (passes-fails tt n (sym e ∙ f))
+outcome-determined {r} {sh} {xs} {fs} {before} {ys} {zs} (mend-uncorrected e us p c y) (mend-done f q d) =
+    let ok = mend-ready sh _ fs _ e in absurd (c (rw (passes-determined r sh (ok .valid) xs (ok .size) us zs p q) d))
+outcome-determined (mend-uncorrected e us p c y) (mend-uncorrected f ts q d z) = (refl, y ∙ sym z)

@@ -3,19 +3,17 @@
 use mathlib.Core.Path.{_≡_, sym, ap, _∙_}
 use mathlib.Core.List.{List}
 use mathlib.Core.Logic.{inl}
-use Prim.Native.Nat.{ℕ, _+_, _*_, _/_, _%_, _≤_, _<_}
-use native.Mathlib.Nat.{add-zero, add-assoc, add-mul, mul-assoc, mul-comm, mul-left-comm, mul-suc, one-mul, div-one, mod-one, mul-le-mul-left, mul-le-mul-right, le-refl}
+use Prim.Native.Nat.{ℕ, _+_, _*_, _≤_, _<_}
+use native.Mathlib.Nat.{zero-add, add-assoc, add-mul, mul-assoc, mul-comm, mul-left-comm, mul-suc, one-mul, mul-le-mul-left, mul-le-mul-right, le-refl}
 use native.Mathlib.Decide.{ℕ-discrete}
 use native.Mathlib.Omega.{arith}
 use lib.ListN.{length, getD}
 use Rattle.span.proofs.Stretches.{stretch-end}
-use Rattle.cube.specs.declared.Shape.{Shape}
-use Rattle.cube.specs.declared.Line.{Line}
-use Rattle.cube.specs.declared.LineAnswer.the-variants.{Found}
-use Rattle.cube.specs.Shapes.{Valid, cells, strideOf, lengthOf, linesOf, firstOf, lineOf}
+use Rattle.shape.specs.declared.Shape.{Shape}
+use Rattle.shape.specs.Shapes.{Valid, cells, cell, AxisLine, axis1}
+use Rattle.shape.proofs.Geometry.{low-lt}
 use Rattle.cube.specs.Cube.{layer, layerLine}
 use Rattle.span.specs.Span.{Copied}
-use Rattle.cube.proofs.AxisRuns.{located}
 use Rattle.mend.specs.Mend.{Pass}
 use Rattle.mend.proofs.Correction.{corrected-cong}
 use Rattle.line.specs.declared.Run.{Run}
@@ -53,12 +51,9 @@ row-inside sh m v less =
     }
 
 -- a line of axis 1 is a row
-row-line : (sh : Shape) (m : ℕ) (l : Line) → lineOf sh 1 m ≡ Found l → l ≡ record { first = m * sh .l1; stride = 1; len = sh .l1 }
-unfolding firstOf strideOf lengthOf
-row-line sh m l e = located sh 1 m l e .same ∙ ap (λ (f : ℕ). record { first = f; stride = 1; len = sh .l1 }) first
-  where
-    first : m / 1 * (1 * sh .l1) + m % 1 ≡ m * sh .l1
-    first = rw (div-one m, mod-one m, one-mul (sh .l1)) (add-zero _)
+row-first : (sh : Shape) (b c : ℕ) → cell sh 0 b c ≡ (b + sh .l2 * c) * sh .l1
+unfolding cell
+row-first sh b c = simp zero-add (mul-comm _ _)
 
 row-layer : (sh : Shape) (xs : List ℕ) (m t i : ℕ) → layerLine sh xs t (m * sh .l1) 1 i ≡ lineAt xs (rowRun (sh .w) (sh .l1) m) t i
 unfolding layerLine layer lineAt rowRun
@@ -78,25 +73,23 @@ pub rows-none : (r w l1 : ℕ) (xs ys : List ℕ) → length ys ≡ length xs �
 rows-none r w l1 xs ys size = record { size = size; rows = λ m less. absurd (omega arith) }
 
 pub rows-all : (r : ℕ) (sh : Shape) (n : ℕ) (xs ys : List ℕ) → sh .l2 * sh .l3 ≤ n → RowsThrough r (sh .w) (sh .l1) n xs ys → Pass r sh 1 xs ys
-unfolding linesOf layerLine
-rows-all r sh n xs ys le h =
-    record {
-      size = h .size;
-      lines = λ m l e t i lt li.
-          let same = row-line sh m l e in
-          let here : i < sh .l1 = rw same at li in
-          rw same
-          (row-layer sh ys m t i
-          ∙ h .rows m (omega (arith, located sh 1 m l e .below)) t i lt here
-          ∙ corrected-cong r (sh .l1) _ _ (λ j lj. sym (row-layer sh xs m t j)) i here);
-    }
+unfolding layerLine
+rows-all r sh n xs ys le h = record { size = h .size; lines = by }
+  where
+    by : (first stride len : ℕ) → AxisLine sh 1 first stride len → (t i : ℕ) → t < sh .w → i < len
+        → layer sh ys t (first + stride * i) ≡ corrected r len (layerLine sh xs t first stride) i
+    by _ _ _ (axis1 b c p q) t i lt li =
+        let m : ℕ = b + sh .l2 * c in
+        let less : m < n = omega (arith, low-lt b (sh .l2) c (sh .l3) p q) in
+        rw (row-first sh b c)
+        (row-layer sh ys m t i ∙ h .rows m less t i lt li ∙ corrected-cong r (sh .l1) _ _ (λ j lj. sym (row-layer sh xs m t j)) i li)
 
 module _ (r w l1 m : ℕ) (xs ys us zs : List ℕ) (h : RowsThrough r w l1 m xs ys)
     (copy : Copied xs (m * (l1 * w)) ys (m * (l1 * w)) (l1 * w) us) (run : Corrected r (rowRun w l1 m) us zs) where
   -- the rows before row m are kept
   earlier-kept : (p : ℕ) → p < m * (l1 * w) → getD zs p 0 ≡ getD ys p 0
   unfolding rowRun Off
-  earlier-kept p less = run .kept p (λ i li. inl (omega arith)) ∙ copy .below p less
+  earlier-kept p less = run .kept p (λ i li. inl (omega arith)) ∙ copy .kept .below p less
 
   earlier : (k : ℕ) → k < m → (t i : ℕ) → t < w → i < l1 → lineAt zs (rowRun w l1 k) t i ≡ lineAt ys (rowRun w l1 k) t i
   unfolding lineAt rowRun
@@ -110,7 +103,7 @@ module _ (r w l1 m : ℕ) (xs ys us zs : List ℕ) (h : RowsThrough r w l1 m xs 
   unfolding rowRun
   rows-more =
       record {
-        size = run .size ∙ copy .size ∙ h .size;
+        size = run .size ∙ copy .kept .size ∙ h .size;
         rows = λ k less t i lt li.
             elim (ℕ-discrete k m) [
               | yes e ↦ rw e (run .lines t lt i li ∙ corrected-cong r l1 _ _ (λ j lj. fresh t j lt lj) i li)

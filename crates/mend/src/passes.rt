@@ -1,16 +1,19 @@
 // The passes over a cube, and the second cube's bytes.
-use cube::LineAnswer;
-use cube::Shape;
+use cube::CubeCheck;
 use line::Run;
+use shape::LineAnswer;
+use shape::Shape;
 ghost use mathlib.Core.Path.{_≡_};
 ghost use Prim.Native.Nat.{_*_, _≤_};
 ghost use lib.ListN.{length, replicate};
 ghost use Rattle.field.specs.Field.{reduction};
-ghost use Rattle.cube.specs.Shapes.{Valid, cells};
+ghost use Rattle.shape.specs.Shapes.{Valid, cells};
+ghost use Rattle.cube.specs.Cube.{CodeCube};
+ghost use Rattle.span.specs.Decision.{Decides};
 ghost use Rattle.mend.specs.Mend.{Pass};
 
 // The pass by axis 1 from one cube into another: each row is corrected as soon as it is copied, while it is in the cache.
-pub(crate) fn first_pass(cube: &[u8], second: &mut [u8], sh: Shape)
+pub(crate) fn first_pass(cube: &[u8], second: &mut [u8], reduction: u8, sh: Shape)
     requires { ⌜ Valid sh × (length (now cube) ≡ sh .w * cells sh) × (length (now second) ≡ sh .w * cells sh) ⌝ }
     ensures { λ r. ⌜ Pass reduction sh 1 (now (cube .entry)) (now (second .exit)) ⌝ }
 {
@@ -28,20 +31,20 @@ pub(crate) fn first_pass(cube: &[u8], second: &mut [u8], sh: Shape)
             len: l1,
             width: w,
         };
-        line::correct(second, run);
+        line::correct(second, reduction, run);
         m += 1;
     }
 }
 
 // Corrects every line of an axis. The lines m to m + stride - 1 lie side by side, so they are one run.
-pub(crate) fn pass(cube: &mut [u8], sh: Shape, axis: usize)
+pub(crate) fn pass(cube: &mut [u8], reduction: u8, sh: Shape, axis: usize)
     requires { ⌜ Valid sh × (length (now cube) ≡ sh .w * cells sh) × (1 ≤ axis) × (axis ≤ 3) ⌝ }
     ensures { λ r. ⌜ Pass reduction sh axis (now (cube .entry)) (now (cube .exit)) ⌝ }
 {
     let w = sh.w;
     let mut m = 0;
     loop {
-        let found = cube::axis_line(sh, axis, m);
+        let found = shape::axis_line(sh, axis, m);
         let LineAnswer::Found(l) = found else {
             return;
         };
@@ -52,17 +55,26 @@ pub(crate) fn pass(cube: &mut [u8], sh: Shape, axis: usize)
             len: l.len,
             width: stride * w,
         };
-        line::correct(cube, run);
+        line::correct(cube, reduction, run);
         m += stride;
     }
 }
 
+// Whether a cube of a valid shape is a code cube.
+pub(crate) fn is_code_cube(cube: &[u8], sh: Shape) -> bool
+    requires { ⌜ Valid sh × (length (now cube) ≡ sh .w * cells sh) ⌝ }
+    ensures { λ r. ⌜ Decides (CodeCube reduction sh (now (cube .entry))) r ⌝ }
+{
+    match cube::is_code_cube(cube, sh) {
+        CubeCheck::Code(code) => code,
+        CubeCheck::Refused(_) => false,
+    }
+}
+
+// Makes every byte 00h.
 pub(crate) fn clear(s: &mut [u8])
     ensures { λ r. ⌜ now (s .exit) ≡ replicate (length (now (s .entry))) 0 ⌝ }
 {
-    let mut i = 0;
-    while i < s.len() {
-        s[i] = 0;
-        i += 1;
-    }
+    let n = s.len();
+    span::set(s, 0, n, 0);
 }

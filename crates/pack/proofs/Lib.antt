@@ -1,3 +1,12 @@
--- Why the crate `pack` meets its contracts: `Counts` is about reading a pack, `PacketLaws` about the bytes of one that was written.
-pub mod Counts
-pub mod PacketLaws
+-- Why the crate `pack` meets its contracts: the steps of reading (`Steps`), what was read (`Sound`), the numbers of refusals (`Numbers`), packets that name a cell
+-- (`Naming`), packs that were written (`Written`) and the packets that stand in them (`Standing`), parts laid one behind the other (`Laying`), the
+-- writing calls' answers (`Outcomes`), the data string of a file (`DataStrings`).
+pub mod Steps
+pub mod Sound
+pub mod Numbers
+pub mod Naming
+pub mod Written
+pub mod Standing
+pub mod Laying
+pub mod Outcomes
+pub mod DataStrings

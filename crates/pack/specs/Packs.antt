@@ -1,9 +1,9 @@
 -- Packs (document 01, "Packs"): the house form as lists of bytes.
-use mathlib.Core.List.{List, [], _∷_, _++_}
+use mathlib.Core.List.{List, [], _∷_, _++_, map}
 use Prim.Native.Nat.{ℕ, zero, suc, _+_, _-_, _*_, _/_, _%_}
 use lib.ListN.{length, getD, take, drop, replicate}
-use Rattle.cube.specs.declared.Shape.{Shape}
-use Rattle.cube.specs.Shapes.{capacity}
+use Rattle.shape.specs.declared.Shape.{Shape}
+use Rattle.shape.specs.Shapes.{cells, capacity}
 
 -- "four bytes, low first": the number that stands at a place of a pack
 unfoldable pub word : List ℕ → ℕ → ℕ
@@ -14,27 +14,57 @@ unfoldable pub wordBytes : ℕ → List ℕ
 wordBytes n = n % 256 ∷ n / 256 % 256 ∷ n / 65536 % 256 ∷ n / 16777216 % 256 ∷ []
 
 -- "Section 1, count 5: L1, L2, L3, then W in two bytes, low first."
-unfoldable pub shapeSection : Shape → List ℕ
-shapeSection sh = wordBytes 5 ++ (sh .l1 ∷ sh .l2 ∷ sh .l3 ∷ sh .w % 256 ∷ sh .w / 256 ∷ [])
+unfoldable pub shapeBytes : Shape → List ℕ
+shapeBytes sh = sh .l1 ∷ sh .l2 ∷ sh .l3 ∷ sh .w % 256 ∷ sh .w / 256 ∷ []
 
--- "packets of 3 + W bytes: a, b, c and the cell": the packet of cell n
-unfoldable pub packet : Shape → List ℕ → ℕ → List ℕ
-packet sh xs n = n % sh .l1 ∷ n / sh .l1 % sh .l2 ∷ n / (sh .l1 * sh .l2) ∷ take (sh .w) (drop (n * sh .w) xs)
+-- "packets of 3 + W bytes: a, b, c and the cell"
+pub record Packet : Type 0 where
+  pub a : ℕ
+  pub b : ℕ
+  pub c : ℕ
+  pub bytes : List ℕ
 
--- the packets of a list of cells
-unfoldable pub packets : Shape → List ℕ → List ℕ → List ℕ
-packets sh xs [] = []
-packets sh xs (n ∷ ns) = packet sh xs n ++ packets sh xs ns
+unfoldable pub packetBytes : Packet → List ℕ
+packetBytes k = k .a ∷ k .b ∷ k .c ∷ k .bytes
 
--- An air pack: section 1, section 2 with count 0, and as section 3 the packets of a list of cells of the cube xs.
-unfoldable pub airPack : Shape → List ℕ → List ℕ → List ℕ
-airPack sh xs ns = shapeSection sh ++ (wordBytes 0 ++ (wordBytes (length ns) ++ packets sh xs ns))
+-- the packets of a list, one after another
+unfoldable pub packets : List Packet → List ℕ
+packets [] = []
+packets (k ∷ ks) = packetBytes k ++ packets ks
 
--- the numbers from n on, k of them: every cell in cell order is upFrom 0 cells
+-- "three sections in a fixed order, each after its count (four bytes, low first)". A job pack: the shape, a file, no packets.
+unfoldable pub jobPack : Shape → List ℕ → List ℕ
+jobPack sh file = wordBytes 5 ++ (shapeBytes sh ++ (wordBytes (length file) ++ (file ++ wordBytes 0)))
+
+-- An air pack: the shape, "section 2 count 0", packets.
+unfoldable pub airPack : Shape → List Packet → List ℕ
+airPack sh ps = wordBytes 5 ++ (shapeBytes sh ++ (wordBytes 0 ++ (wordBytes (length ps) ++ packets ps)))
+
+-- the packet of cell n of a cube
+unfoldable pub packetOf : Shape → List ℕ → ℕ → Packet
+packetOf sh xs n =
+    record { a = n % sh .l1; b = n / sh .l1 % sh .l2; c = n / (sh .l1 * sh .l2); bytes = take (sh .w) (drop (n * sh .w) xs) }
+
+-- the numbers from n on, k of them
 unfoldable pub upFrom : ℕ → ℕ → List ℕ
 upFrom n zero = []
 upFrom n (suc k) = n ∷ upFrom (suc n) k
 
+-- the packets of the first n cells; "every cell in cell order"
+unfoldable pub firstPackets : Shape → List ℕ → ℕ → List Packet
+firstPackets sh xs n = map (packetOf sh xs) (upFrom 0 n)
+
+unfoldable pub everyPacket : Shape → List ℕ → List Packet
+everyPacket sh xs = firstPackets sh xs (cells sh)
+
+-- "17 + cells × (3 + W) bytes"
+unfoldable pub packSize : Shape → ℕ
+packSize sh = 17 + cells sh * (3 + sh .w)
+
+-- "the file's length in four bytes, low first, the file, then 00h", so many bytes in all
+unfoldable pub padded : ℕ → List ℕ → List ℕ
+padded size file = wordBytes (length file) ++ (file ++ replicate (size - 4 - length file) 0)
+
 -- "The data string is the file's length in four bytes, low first, the file, then 00h to capacity."
 unfoldable pub dataString : Shape → List ℕ → List ℕ
-dataString sh file = wordBytes (length file) ++ (file ++ replicate (capacity sh - 4 - length file) 0)
+dataString sh file = padded (capacity sh) file

@@ -1,87 +1,127 @@
--- Reading a pack (document 01, "Where each refusal is checked"): the checks run down the table, section by section.
-use mathlib.Core.Bool.{cond}
+-- Reading a pack (document 01, "Where each refusal is checked"): "Sections are read one after another, each from the byte where the one
+-- before ended", and the checks run down the table.
 use mathlib.Core.List.{List}
-use Prim.Native.Nat.{ℕ, _+_, _-_, _*_}
-use lib.Dec.{eqb, ltb}
-use lib.ListN.{length, getD}
-use Rattle.cube.specs.declared.Shape.{Shape}
-use Rattle.cube.specs.declared.Fault.{Fault}
-use Rattle.cube.specs.declared.Fault.the-variants.{Truncated, HeaderCount, TrailingBytes, SectionCount, Capacity}
-use Rattle.cube.specs.declared.Refusal.the-variants.{Plain}
-use Rattle.cube.specs.declared.Measured.{Measured}
-use Rattle.cube.specs.declared.Measured.the-variants.{Fits, Misfit}
-use Rattle.cube.specs.Shapes.{capacity, measured}
+use Prim.Native.Nat.{ℕ, _+_, _*_}
+use lib.Dec.{eqb, leb}
+use lib.ListN.{length, getD, take, drop}
+use Rattle.answer.specs.Values.{Value, gives, refused, Checked, passes, check, andThen, refusal}
+use Rattle.shape.specs.declared.Shape.{Shape}
+use Rattle.shape.specs.Shapes.{sizes, shapeChecked}
 use Rattle.pack.specs.declared.Cursor.{Cursor}
+use Rattle.pack.specs.declared.Section.{Section}
+use Rattle.pack.specs.declared.Header.{Header}
 use Rattle.pack.specs.declared.CountRead.{CountRead}
 use Rattle.pack.specs.declared.CountRead.the-variants.{Count, Cut}
-use Rattle.pack.specs.declared.Header.{Header}
+use Rattle.pack.specs.declared.BytesRead.{BytesRead}
+use Rattle.pack.specs.declared.BytesRead.the-variants.{Bytes, Cut as BytesCut}
 use Rattle.pack.specs.declared.HeaderRead.{HeaderRead}
-use Rattle.pack.specs.declared.HeaderRead.the-variants.{Headed, Unheaded}
+use Rattle.pack.specs.declared.HeaderRead.the-variants.{Headed, Refused as NoHeader}
 use Rattle.pack.specs.declared.JobRead.{JobRead}
-use Rattle.pack.specs.declared.JobRead.the-variants.{Job, NoJob}
+use Rattle.pack.specs.declared.JobRead.the-variants.{Job, Refused as NoJob}
 use Rattle.pack.specs.declared.AirRead.{AirRead}
-use Rattle.pack.specs.declared.AirRead.the-variants.{Air, NoAir}
+use Rattle.pack.specs.declared.AirRead.the-variants.{Air, Refused as NoAir}
 use Rattle.pack.specs.Packs.{word}
 
--- a count at a cursor, with the cursor behind it; cut where the pack ends before or inside it
-unfoldable pub countAt : List ℕ → Cursor → CountRead
-countAt p c = cond (ltb (length p) (c .at + 4)) Cut (Count (word p (c .at)) (record { at = c .at + 4 }))
+-- ---- the steps, each a row of the table; what comes next is a function of what was read and of the cursor behind it
 
--- the shape that stands in section 1
-unfoldable pub shapeOf : List ℕ → Shape
-shapeOf p = record { l1 = getD p 4 0; l2 = getD p 5 0; l3 = getD p 6 0; w = getD p 7 0 + 256 * getD p 8 0 }
+-- a count: "pack ends inside a count or section (every section)"
+unfoldable pub count : {A : Type 0} → List ℕ → Cursor → (ℕ → Cursor → Checked A) → Checked A
+count p c next = check (leb (c .at + 4) (length p)) 6 (next (word p (c .at)) (record { at = c .at + 4 }))
+
+-- a section of n bytes: where it begins
+unfoldable pub bytes : {A : Type 0} → List ℕ → Cursor → ℕ → (ℕ → Cursor → Checked A) → Checked A
+bytes p c n next = check (leb (c .at + n) (length p)) 6 (next (c .at) (record { at = c .at + n }))
+
+-- "bytes after section 3"
+unfoldable pub end : {A : Type 0} → List ℕ → Cursor → Checked A → Checked A
+end p c done = check (eqb (length p) (c .at)) 8 done
+
+-- ---- the readers
+
+-- the five bytes of section 1
+unfoldable pub shapeAt : List ℕ → ℕ → Shape
+shapeAt p at =
+    record {
+      l1 = getD p at 0;
+      l2 = getD p (at + 1) 0;
+      l3 = getD p (at + 2) 0;
+      w = getD p (at + 3) 0 + 256 * getD p (at + 4) 0;
+    }
+
+-- what section 1 of a pack with this shape is read as
+unfoldable pub headerFor : Shape → Header
+headerFor sh = record { shape = sh; sizes = sizes sh }
 
 -- 1, 2, 3, then "capacity below 4"
-unfoldable pub headedBy : Shape → Measured → HeaderRead
-headedBy sh (Misfit f) = Unheaded f
-headedBy sh (Fits z) =
-    cond (ltb (capacity sh) 4) (Unheaded (Plain Capacity)) (Headed (record { shape = sh }) (record { at = 9 }))
+unfoldable pub headed : Shape → Cursor → Checked (Header × Cursor)
+headed sh next =
+    andThen (shapeChecked sh) (λ z.
+    check (leb 4 (z .capacity)) 10
+    (passes (record { shape = sh; sizes = z }, next)))
 
 -- Section 1: "a count is judged (7) before its five bytes are needed (6)".
-unfoldable pub headerOf : List ℕ → HeaderRead
+unfoldable pub headerOf : List ℕ → Checked (Header × Cursor)
 headerOf p =
-    cond (ltb (length p) 4) (Unheaded (Plain Truncated))
-    (cond (eqb (word p 0) 5)
-    (cond (ltb (length p) 9) (Unheaded (Plain Truncated)) (headedBy (shapeOf p) (measured (shapeOf p))))
-    (Unheaded (Plain HeaderCount)))
+    count p (record { at = 0 }) (λ n body.
+    check (eqb n 5) 7
+    (bytes p body n (λ at next.
+    headed (shapeAt p at) next)))
 
-unfoldable pub noJob : Fault → JobRead
-noJob f = NoJob (Plain f)
+-- Sections 2 and 3 for the writer: "count above capacity - 4", "at the others 9 and 10 come before 6".
+unfoldable pub jobBehind : List ℕ → Header → Cursor → Checked (Header × Section)
+jobBehind p h second =
+    count p second (λ n file.
+    check (leb (4 + n) (h .sizes .capacity)) 10
+    (bytes p file n (λ at third.
+    count p third (λ packets rest.
+    check (eqb packets 0) 9
+    (end p rest
+    (passes (h, record { at = at; count = n })))))))
 
-unfoldable pub noAir : Fault → AirRead
-noAir f = NoAir (Plain f)
+-- The whole pack, as the writer reads it: its header, and where the file stands.
+unfoldable pub jobOf : List ℕ → Checked (Header × Section)
+jobOf p = andThen (headerOf p) (λ r. jobBehind p (r .0) (r .1))
 
--- Sections 2 and 3 for the writer, "at the others 9 and 10 come before 6"; the file's n bytes stand from byte 13 on.
-unfoldable pub jobIn : List ℕ → Header → ℕ → JobRead
-jobIn p h n =
-    cond (ltb (capacity (h .shape) - 4) n) (noJob Capacity)
-    (cond (ltb (length p) (17 + n)) (noJob Truncated)
-    (cond (eqb (word p (13 + n)) 0)
-    (cond (eqb (length p) (17 + n)) (Job h n) (noJob TrailingBytes))
-    (noJob SectionCount)))
+-- "packets of 3 + W bytes"
+unfoldable pub packetSize : Header → ℕ
+packetSize h = 3 + h .shape .w
 
-unfoldable pub jobBehind : List ℕ → HeaderRead → JobRead
-jobBehind p (Unheaded f) = NoJob f
-jobBehind p (Headed h c) = cond (ltb (length p) 13) (noJob Truncated) (jobIn p h (word p 9))
+-- Sections 2 and 3 for the receiver.
+unfoldable pub airBehind : List ℕ → Header → Cursor → Checked (Header × Section)
+airBehind p h second =
+    count p second (λ n third.
+    check (eqb n 0) 9
+    (count p third (λ packets body.
+    bytes p body (packets * packetSize h) (λ at rest.
+    end p rest
+    (passes (h, record { at = at; count = packets }))))))
 
--- The whole pack, as the writer reads it.
-unfoldable pub jobOf : List ℕ → JobRead
-jobOf p = jobBehind p (headerOf p)
+-- The whole pack, as the receiver reads it: its header, and where the packets stand.
+unfoldable pub airOf : List ℕ → Checked (Header × Section)
+airOf p = andThen (headerOf p) (λ r. airBehind p (r .0) (r .1))
 
--- Sections 2 and 3 for the receiver: n packets from byte 17 on.
-unfoldable pub airIn : List ℕ → Header → ℕ → AirRead
-airIn p h n =
-    cond (ltb (length p) (17 + n * (3 + h .shape .w))) (noAir Truncated)
-    (cond (eqb (length p) (17 + n * (3 + h .shape .w))) (Air h n) (noAir TrailingBytes))
+-- the file in a job pack: the bytes that section 2 counts
+unfoldable pub fileOf : List ℕ → Section → List ℕ
+fileOf p s = take (s .count) (drop (s .at) p)
 
-unfoldable pub airBehind : List ℕ → HeaderRead → AirRead
-airBehind p (Unheaded f) = NoAir f
-airBehind p (Headed h c) =
-    cond (ltb (length p) 13) (noAir Truncated)
-    (cond (eqb (word p 9) 0)
-    (cond (ltb (length p) 17) (noAir Truncated) (airIn p h (word p 13)))
-    (noAir SectionCount))
+-- ---- what the calls answer
 
--- The whole pack, as the receiver reads it.
-unfoldable pub airOf : List ℕ → AirRead
-airOf p = airBehind p (headerOf p)
+unfoldable pub countValue : CountRead → Value (ℕ × Cursor)
+countValue (Count n next) = gives (n, next)
+countValue Cut = refused 6
+
+unfoldable pub bytesValue : BytesRead → Value (ℕ × Cursor)
+bytesValue (Bytes at next) = gives (at, next)
+bytesValue BytesCut = refused 6
+
+unfoldable pub headerValue : HeaderRead → Value (Header × Cursor)
+headerValue (Headed h next) = gives (h, next)
+headerValue (NoHeader f) = refusal f
+
+unfoldable pub jobValue : JobRead → Value (Header × Section)
+jobValue (Job h s) = gives (h, s)
+jobValue (NoJob f) = refusal f
+
+unfoldable pub airValue : AirRead → Value (Header × Section)
+airValue (Air h s) = gives (h, s)
+airValue (NoAir f) = refusal f

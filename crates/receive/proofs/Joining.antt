@@ -5,8 +5,8 @@ use Prim.Native.Nat.{ℕ, zero, suc, _+_}
 use native.Mathlib.Nat.{add-zero, add-suc, add-assoc}
 use native.Mathlib.Numerals.{add-one}
 use native.Mathlib.Omega.{arith}
-use Rattle.text.specs.Append.{Appended}
-use Rattle.text.proofs.Appending.{append-append, append-nothing}
+use Rattle.printing.specs.Append.{Appended}
+use Rattle.printing.proofs.Appending.{append-append, append-nothing}
 use Rattle.receive.specs.Printed.{joined}
 
 pub joined-none : (b : List ℕ) (text : ℕ → List ℕ) (from : ℕ) → Appended b 0 (joined text from 0) b 0

@@ -1,18 +1,17 @@
 -- How long the printed texts are: each run of them fits in a buffer of 65,536 bytes.
-use mathlib.Core.Path.{_≡_}
 use mathlib.Core.Bool.{Bool, true, false, cond}
 use mathlib.Core.List.{List, [], _∷_, _++_}
-use Prim.Native.Nat.{ℕ, zero, suc, _+_, _-_, _*_, _/_, _%_, _≤_, _<_, min}
-use native.Mathlib.Nat.{le-min, min-le-left, min-le-right}
+use Prim.Native.Nat.{ℕ, zero, suc, _+_, _*_, _/_, _%_, _≤_}
 use native.Mathlib.Omega.{arith}
 use lib.Dec.{eqb}
 use lib.ListN.{length, getD, length-append}
-use Rattle.cube.specs.declared.Shape.{Shape}
-use Rattle.text.specs.Text.{ascii, hexByte, numberLine, triple}
-use Rattle.text.proofs.Numerals.{length-numberLine, length-triple}
+use Rattle.shape.specs.declared.Shape.{Shape}
+use Rattle.printing.specs.Text.{ascii, hexByte, numberLine, triple}
+use Rattle.printing.proofs.Numerals.{length-numberLine, length-triple}
 use Rattle.receive.specs.declared.receiving.Report.{Report}
-use Rattle.receive.specs.declared.receiving.Outcome.the-variants.{Came}
-use Rattle.receive.specs.Printed.{shapeLine, headLines, openingLines, separator, byteText, holeLine, holeText, joined}
+use Rattle.receive.specs.declared.receiving.Outcome.{Outcome}
+use Rattle.receive.specs.declared.receiving.Outcome.the-variants.{TooBig, Refused, Came}
+use Rattle.receive.specs.Printed.{shapeLine, headLines, openingLines, separator, byteText, holeLine, holeText, joined, textOf}
 
 length-pick : (t : Bool) (x y : List ℕ) (n : ℕ) → length x ≤ n → length y ≤ n → length (cond t x y) ≤ n
 length-pick true x y n h k = h
@@ -49,7 +48,7 @@ length-openingLines r =
 
 -- ---- the bytes and the holes
 
-pub length-byteText : (bs : List ℕ) (n i : ℕ) → length (byteText bs n i) ≤ 68
+length-byteText : (bs : List ℕ) (n i : ℕ) → length (byteText bs n i) ≤ 68
 unfolding byteText hexByte
 length-byteText bs n i = omega (arith, length-append (hexByte (getD bs i 0)) (separator n i ∷ []))
 
@@ -61,9 +60,16 @@ length-holeLine sh m =
     let c = m / (sh .l1 * sh .l2) in
     omega (arith, length-append (triple (ascii "hole ") a b c) (ascii "\n"), length-triple (ascii "hole ") a b c)
 
-pub length-holeText : (sh : Shape) (fs : List ℕ) (m : ℕ) → length (holeText sh fs m) ≤ 68
+length-holeText : (sh : Shape) (fs : List ℕ) (m : ℕ) → length (holeText sh fs m) ≤ 68
 unfolding holeText
 length-holeText sh fs m = length-pick (eqb (getD fs m 0) 1) (holeLine sh m) [] 68 (length-holeLine sh m) (omega arith)
+
+length-textOf : (fs bs : List ℕ) (o : Outcome) (i : ℕ) → length (textOf fs bs o i) ≤ 68
+unfolding textOf
+length-textOf fs bs TooBig i = omega arith
+length-textOf fs bs (Refused f) i = omega arith
+length-textOf fs bs (Came r) i =
+    length-pick (eqb (r .left) 0) _ _ 68 (length-byteText bs (r .length) i) (length-holeText (r .shape) fs i)
 
 -- a run of texts of at most 68 characters
 length-joined : (text : ℕ → List ℕ) (from count : ℕ) → ((i : ℕ) → length (text i) ≤ 68) → length (joined text from count) ≤ 68 * count
@@ -72,13 +78,5 @@ length-joined text from zero h = omega arith
 length-joined text from (suc k) h =
     omega (arith, length-append (joined text from k) (text (from + k)), length-joined text from k h, h (from + k))
 
-pub run-fits : (text : ℕ → List ℕ) (from count : ℕ) → ((i : ℕ) → length (text i) ≤ 68) → count ≤ 512 → length (joined text from count) ≤ 65536
-run-fits text from count h k = omega (arith, length-joined text from count h)
-
--- how many of the next texts are printed at once
-pub run-count : (n from count : ℕ) → from < n → count ≡ min 512 (n - from) → (0 < count) × (count ≤ 512) × (from + count ≤ n)
-run-count n from count h e =
-    let low : 1 ≤ min 512 (n - from) = le-min (omega arith) (omega arith) in
-    let l = min-le-left 512 (n - from) in
-    let r = min-le-right 512 (n - from) in
-    (omega arith, omega arith, omega arith)
+pub run-fits : (fs bs : List ℕ) (o : Outcome) (from count : ℕ) → count ≤ 512 → length (joined (textOf fs bs o) from count) ≤ 65536
+run-fits fs bs o from count k = omega (arith, length-joined (textOf fs bs o) from count (length-textOf fs bs o))

@@ -1,5 +1,6 @@
--- What a reader of the program `receive` must believe: what there is to print for an input (`Outcomes`), and its text (`Printed`).
--- `Memory` is for the private functions only.
+-- What a reader of the program `receive` must believe: what there is to print for an input (`Outcomes`), its text (`Printed`), and the pieces
+-- in which it is written (`Pieces`). `Inner` is for the private functions only.
 pub mod Outcomes
 pub mod Printed
-pub mod Memory
+pub mod Pieces
+pub mod Inner

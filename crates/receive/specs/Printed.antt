@@ -4,9 +4,9 @@ use mathlib.Core.List.{List, [], _∷_, _++_}
 use Prim.Native.Nat.{ℕ, zero, suc, _+_, _*_, _/_, _%_}
 use lib.Dec.{eqb}
 use lib.ListN.{getD}
-use Rattle.cube.specs.declared.Shape.{Shape}
-use Rattle.cube.specs.Shapes.{cells}
-use Rattle.text.specs.Text.{ascii, hexByte, numberLine, triple, refusedLine, tooBigLine}
+use Rattle.shape.specs.declared.Shape.{Shape}
+use Rattle.shape.specs.Shapes.{cells}
+use Rattle.printing.specs.Text.{ascii, hexByte, numberLine, triple, refusedLine, tooBigLine}
 use Rattle.receive.specs.declared.receiving.Report.{Report}
 use Rattle.receive.specs.declared.receiving.Outcome.{Outcome}
 use Rattle.receive.specs.declared.receiving.Outcome.the-variants.{TooBig, Refused, Came}
@@ -25,7 +25,7 @@ headLines r =
 -- "then, if 0, the file's length": what stands before the bytes or the holes
 unfoldable pub openingLines : Outcome → List ℕ
 openingLines TooBig = tooBigLine
-openingLines (Refused f) = refusedLine f
+openingLines (Refused n) = refusedLine n
 openingLines (Came r) = headLines r ++ cond (eqb (r .left) 0) (numberLine (ascii "file ") (r .length)) []
 
 -- "single spaces between, 16 a line": behind byte i of a file of n bytes a newline ends the line or the file, else there is a space
@@ -48,15 +48,17 @@ unfoldable pub joined : (ℕ → List ℕ) → ℕ → ℕ → List ℕ
 joined text from zero = []
 joined text from (suc k) = joined text from k ++ text (from + k)
 
--- what stands behind the opening lines: the file's bytes where no cell is left, else the holes
-unfoldable pub restOf : List ℕ → List ℕ → Report → List ℕ
-restOf fs bs r = cond (eqb (r .left) 0) (joined (byteText bs (r .length)) 0 (r .length)) (joined (holeText (r .shape) fs) 0 (cells (r .shape)))
+-- what stands behind the opening lines: "if 0, the file's … bytes", a text each, "else … a cell in cell order", a text each
+unfoldable pub texts : Outcome → ℕ
+texts TooBig = 0
+texts (Refused n) = 0
+texts (Came r) = cond (eqb (r .left) 0) (r .length) (cells (r .shape))
 
-unfoldable pub restLines : List ℕ → List ℕ → Outcome → List ℕ
-restLines fs bs TooBig = []
-restLines fs bs (Refused f) = []
-restLines fs bs (Came r) = restOf fs bs r
+unfoldable pub textOf : List ℕ → List ℕ → Outcome → ℕ → List ℕ
+textOf fs bs TooBig i = []
+textOf fs bs (Refused n) i = []
+textOf fs bs (Came r) i = cond (eqb (r .left) 0) (byteText bs (r .length) i) (holeText (r .shape) fs i)
 
 -- "the whole output"
 unfoldable pub printed : List ℕ → List ℕ → Outcome → List ℕ
-printed fs bs o = openingLines o ++ restLines fs bs o
+printed fs bs o = openingLines o ++ joined (textOf fs bs o) 0 (texts o)

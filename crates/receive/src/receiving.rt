@@ -1,19 +1,18 @@
 // Receiving an input: what there is to print of it.
-use cube::Measured;
-use cube::Refusal;
-use cube::Shape;
-use cube::Sizes;
 use pack::AirRead;
+use pack::Header;
+use printing::LIMIT;
 use receiver::Ending;
 use receiver::Received;
-use text::LIMIT;
+use shape::Shape;
 ghost use mathlib.Core.Path.{_≡_};
-ghost use Prim.Native.Nat.{ℕ, _≤_};
+ghost use Prim.Native.Nat.{_≤_};
 ghost use lib.ListN.{length};
-ghost use Rattle.cube.specs.Shapes.{Valid, capacity, sizes};
-ghost use Rattle.pack.specs.declared.AirRead.the-variants.{Air};
+ghost use Rattle.answer.specs.Values.{passes};
+ghost use Rattle.pack.specs.declared.Section.{Section};
 ghost use Rattle.pack.specs.Reading.{airOf};
-ghost use Rattle.receive.specs.Outcomes.{outcomeOf, InputOutcome};
+ghost use Rattle.receiver.specs.Receive.{endingValue};
+ghost use Rattle.receive.specs.Outcomes.{ended, InputOutcome};
 
 // What came of a pack that was received: the cells left, and the bytes of the file where none is left.
 pub(crate) struct Report {
@@ -24,9 +23,10 @@ pub(crate) struct Report {
     pub(crate) length: usize,
 }
 
+// What there is to print: a refusal by its number.
 pub(crate) enum Outcome {
     TooBig,
-    Refused(Refusal),
+    Refused(u64),
     Came(Report),
 }
 
@@ -39,31 +39,18 @@ pub(crate) fn receive(air: &[u8], cube: &mut [u8], flags: &mut [u8], file: &mut 
         return Outcome::TooBig;
     }
     match pack::read_air(air) {
-        AirRead::NoAir(f) => Outcome::Refused(f),
-        AirRead::Air(h, _) => {
-            let sh = h.shape;
-            match cube::measure(sh) {
-                Measured::Misfit(f) => Outcome::Refused(f),
-                Measured::Fits(z) => take(air, cube, flags, file, sh, z),
-            }
-        }
+        AirRead::Refused(f) => Outcome::Refused(answer::number(f)),
+        AirRead::Air(h, _) => take(air, cube, flags, file, h),
     }
 }
 
 // Receives a pack that passes the checks down to 8, in memory of the exact lengths.
-fn take(
-    air: &[u8],
-    cube: &mut [u8],
-    flags: &mut [u8],
-    file: &mut [u8],
-    sh: Shape,
-    z: Sizes,
-) -> Outcome
+fn take(air: &[u8], cube: &mut [u8], flags: &mut [u8], file: &mut [u8], h: Header) -> Outcome
     requires { ⌜ (length (now cube) ≡ 65536) × (length (now flags) ≡ 65536) × (length (now file) ≡ 65536)
-        × Valid sh × (4 ≤ capacity sh) × (z ≡ sizes sh) × (length (now air) ≤ 65536) ⌝ }
-    ensures { λ r. ⌜ ((n : ℕ) → airOf (now (air .entry)) ≡ Air (record { shape = sh }) n
-        → InputOutcome (now (air .entry)) (now (flags .exit)) (now (file .exit)) r) ⌝ }
+        × (length (now air) ≤ 65536) × ((s : Section) × (airOf (now air) ≡ passes (h, s))) ⌝ }
+    ensures { λ r. ⌜ InputOutcome (now (air .entry)) (now (flags .exit)) (now (file .exit)) r ⌝ }
 {
+    let z = h.sizes;
     let bytes = z.bytes;
     if bytes > LIMIT {
         return Outcome::TooBig;
@@ -76,27 +63,28 @@ fn take(
         &mut flags[..cells],
         &mut file[..room],
     );
-    outcome_of(sh, received)
+    outcome_of(h.shape, received)
 }
 
 // The receiver's answer as an outcome: a refusal without its index.
 fn outcome_of(sh: Shape, received: Received) -> Outcome
-    ensures { λ r. ⌜ r ≡ outcomeOf sh received ⌝ }
+    ensures { λ r. ⌜ r ≡ ended sh (received .counts) (endingValue (received .ending)) ⌝ }
 {
     let ending = received.ending;
+    let counts = received.counts;
     match ending {
-        Ending::Stopped(f) => Outcome::Refused(f),
-        Ending::Residue(left) => Outcome::Came(Report {
+        Ending::Refused(f) => Outcome::Refused(answer::number(f)),
+        Ending::Left(left) => Outcome::Came(Report {
             shape: sh,
-            packets: received.packets,
-            repeats: received.repeats,
+            packets: counts.packets,
+            repeats: counts.repeats,
             left: left,
             length: 0,
         }),
         Ending::File(length) => Outcome::Came(Report {
             shape: sh,
-            packets: received.packets,
-            repeats: received.repeats,
+            packets: counts.packets,
+            repeats: counts.repeats,
             left: 0,
             length: length,
         }),

@@ -1,13 +1,13 @@
 -- The laws of the crate.
--- Bytes: runs of bytes, one more at a time.
+-- Bytes: small laws of lists and answers.
 mod Bytes
--- Packets: the packets of a pack and the cells they name.
-pub mod Packets
 -- Arrivals: the cube and flags as packets are placed.
-mod Arrivals
--- DataRows: the data string in rows of data cells.
-mod DataRows
+pub mod Arrivals
+-- HeldFile: the file that a data string holds, opened.
+mod HeldFile
 -- Outcomes: what a pack that passes its checks gives, and the answers.
 pub mod Outcomes
--- Answers: every call ends in exactly one of the three kinds of answer.
-pub mod Answers
+-- Determined: the contract determines answer, counts and memory.
+pub mod Determined
+-- NoPackets: a pack without packets leaves every cell.
+pub mod NoPackets

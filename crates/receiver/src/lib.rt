@@ -1,130 +1,87 @@
-// The receiver: places the packets of an air pack, fills what the lines force, and opens the file only where nothing is left.
+// The receiver: gathers the packets of an air pack into a cube, fills what the lines force, and opens the file only where nothing is left.
 mod file;
+mod gathering;
 mod placing;
-mod runs;
 
-use cube::Fault;
-use cube::Measured;
-use cube::PacketFault;
-use cube::Refusal;
-use cube::Shape;
-use fill::FillAnswer;
+use answer::Fault;
+use answer::Refusal;
+use file::Opening;
+use gathering::Gathering;
 use pack::AirRead;
-use placing::Placing;
+use shape::Sizes;
 ghost use mathlib.Core.Path.{_≡_};
-ghost use mathlib.Core.Bool.{true};
-ghost use mathlib.Core.List.{List};
-ghost use Prim.Native.Nat.{ℕ, _-_, _*_, _≤_};
+ghost use Prim.Native.Nat.{_-_, _≤_};
 ghost use lib.Dec.{eqb};
-ghost use lib.ListN.{length};
-ghost use Rattle.cube.specs.Shapes.{Valid, both, cells, capacity};
-ghost use Rattle.cube.specs.Flags.{flagsValid};
-ghost use Rattle.receiver.specs.Receive.{repeatsOf, Accepted, Taken, ReceiveOutcome};
+ghost use Rattle.field.specs.Field.{reduction};
+ghost use Rattle.shape.specs.Shapes.{both};
+ghost use Rattle.receiver.specs.declared.Ending.the-variants.{Refused};
+ghost use Rattle.receiver.specs.Gathering.{noCounts};
+ghost use Rattle.receiver.specs.Receive.{endingValue, lent, ReceiveOutcome};
 
 // How a pack ends: a file of so many bytes, so many cells left, or a refusal.
 pub enum Ending {
     File(usize),
-    Residue(usize),
-    Stopped(Refusal),
+    Left(usize),
+    Refused(Refusal),
 }
 
-// The answer: how it ended, with the packets and the repeats, which are 0 with a refusal.
-pub struct Received {
-    pub ending: Ending,
+// The packets of a pack, and its repeats: the packets whose cell had come before. Both are 0 with a refusal.
+pub struct Counts {
     pub packets: usize,
     pub repeats: usize,
 }
 
-// Receives a pack: a file, a count of cells left, or a refusal.
+// The answer: how a pack ended, with its counts.
+pub struct Received {
+    pub ending: Ending,
+    pub counts: Counts,
+}
+
+// Receives a pack: a file, a count of cells left, or a refusal. The file is opened only where gathering leaves a whole cube.
 pub fn receive_pack(air: &[u8], cube: &mut [u8], flags: &mut [u8], buffer: &mut [u8]) -> Received
-    ensures { λ r. ⌜ ReceiveOutcome (now (air .entry)) (now (cube .entry)) (now (flags .entry)) (now (buffer .entry)) (now (cube .exit)) (now (flags .exit)) (now (buffer .exit)) r ⌝ }
+    ensures { λ r. ⌜ ReceiveOutcome reduction (now (air .entry)) (lent (now (cube .entry)) (now (flags .entry)) (now (buffer .entry))) (lent (now (cube .exit)) (now (flags .exit)) (now (buffer .exit))) (endingValue (r .ending)) (r .counts) ⌝ }
 {
     match pack::read_air(air) {
-        AirRead::NoAir(f) => stopped(f),
-        AirRead::Air(h, n) => {
-            let sh = h.shape;
-            if !slices_fit(sh, cube.len(), flags.len(), buffer.len()) {
-                return stopped(Refusal::Plain(Fault::SliceLength));
+        AirRead::Refused(f) => refuse(f),
+        AirRead::Air(h, s) => {
+            let z = h.sizes;
+            if !slices_fit(z, cube.len(), flags.len(), buffer.len()) {
+                return refuse(Refusal::Plain(Fault::SliceLength));
             }
-            take(air, cube, flags, buffer, sh, n)
+            match gathering::gather(air, cube, flags, h, s) {
+                Gathering::Ends(ending, counts) => Received {
+                    ending: ending,
+                    counts: counts,
+                },
+                Gathering::Whole(counts) => match file::open(cube, buffer, h.shape) {
+                    Opening::Held(length) => Received {
+                        ending: Ending::File(length),
+                        counts: counts,
+                    },
+                    Opening::Bad => refuse(Refusal::Plain(Fault::FileLength)),
+                },
+            }
         }
     }
 }
 
-// Every index is checked before any packet is placed.
-fn take(
-    air: &[u8],
-    cube: &mut [u8],
-    flags: &mut [u8],
-    buffer: &mut [u8],
-    sh: Shape,
-    n: usize,
-) -> Received
-    requires { ⌜ Accepted (now air) (now cube) (now flags) (now buffer) sh n ⌝ }
-    ensures { λ r. ⌜ ReceiveOutcome (now (air .entry)) (now (cube .entry)) (now (flags .entry)) (now (buffer .entry)) (now (cube .exit)) (now (flags .exit)) (now (buffer .exit)) r ⌝ }
+// Whether the three slices have the lengths that the sizes ask for.
+fn slices_fit(z: Sizes, bytes: usize, flags: usize, room: usize) -> bool
+    requires { ⌜ 4 ≤ z .capacity ⌝ }
+    ensures { λ r. ⌜ r ≡ both (eqb bytes (z .bytes)) (both (eqb flags (z .cells)) (eqb room (z .capacity - 4))) ⌝ }
 {
-    let i = placing::first_outside(air, sh, n);
-    if i < n {
-        return stopped(Refusal::Packet(PacketFault::CellIndex, i as u64));
-    }
-    match placing::place(air, cube, flags, sh, n) {
-        Placing::Differs(i) => stopped(Refusal::Packet(PacketFault::Conflict, i as u64)),
-        Placing::Repeats(repeats) => finish(cube, flags, buffer, sh, n, repeats),
-    }
+    bytes == z.bytes && (flags == z.cells && room == z.capacity - 4)
 }
 
-// Fills, and opens the file where nothing is left.
-fn finish(
-    cube: &mut [u8],
-    flags: &mut [u8],
-    buffer: &mut [u8],
-    sh: Shape,
-    n: usize,
-    repeats: usize,
-) -> Received
-    requires { ⌜ Valid sh × (4 ≤ capacity sh) × (length (now cube) ≡ sh .w * cells sh) × (length (now flags) ≡ cells sh)
-        × (flagsValid (now flags) ≡ true) × (length (now buffer) ≡ capacity sh - 4) ⌝ }
-    ensures { λ r. ⌜ ((p xs fs : List ℕ) → Taken p xs fs (now (buffer .entry)) sh n (now (cube .entry)) (now (flags .entry)) → repeats ≡ repeatsOf p sh n
-        → ReceiveOutcome p xs fs (now (buffer .entry)) (now (cube .exit)) (now (flags .exit)) (now (buffer .exit)) r) ⌝ }
-{
-    let filled = fill::fill(cube, flags, sh);
-    let FillAnswer::Left(left) = filled else {
-        return stopped(Refusal::Plain(Fault::Contradiction));
-    };
-    if left != 0 {
-        return Received {
-            ending: Ending::Residue(left),
-            packets: n,
-            repeats: repeats,
-        };
-    }
-    match file::open(cube, buffer, sh) {
-        file::Opening::Held(length) => Received {
-            ending: Ending::File(length),
-            packets: n,
-            repeats: repeats,
-        },
-        file::Opening::Bad => stopped(Refusal::Plain(Fault::FileLength)),
-    }
-}
-
-// Whether the three slices have the lengths that the shape asks for.
-fn slices_fit(sh: Shape, bytes: usize, flags: usize, room: usize) -> bool
-    requires { ⌜ Valid sh × (4 ≤ capacity sh) ⌝ }
-    ensures { λ r. ⌜ r ≡ both (eqb bytes (sh .w * cells sh)) (both (eqb flags (cells sh)) (eqb room (capacity sh - 4))) ⌝ }
-{
-    match cube::measure(sh) {
-        Measured::Misfit(_) => false,
-        Measured::Fits(z) => bytes == z.bytes && (flags == z.cells && room == z.capacity - 4),
-    }
-}
-
-fn stopped(f: Refusal) -> Received
-    ensures { λ r. ⌜ r ≡ Rattle.receiver.specs.Receive.stopped f ⌝ }
+// A refusal, whose counts are 0.
+fn refuse(f: Refusal) -> Received
+    ensures { λ r. ⌜ r ≡ record { ending = Refused f; counts = noCounts } ⌝ }
 {
     Received {
-        ending: Ending::Stopped(f),
-        packets: 0,
-        repeats: 0,
+        ending: Ending::Refused(f),
+        counts: Counts {
+            packets: 0,
+            repeats: 0,
+        },
     }
 }

@@ -1,2 +1,3 @@
 -- What a reader of the crate `span` must believe.
+pub mod Decision
 pub mod Span

@@ -1,9 +1,8 @@
-// Spans: so many bytes of a slice from a place on. Every public function is total.
-ghost use mathlib.Core.Path.{_≡_};
-ghost use mathlib.Core.Bool.{true, false};
-ghost use Prim.Native.Nat.{_+_, _≤_, _<_};
+// Spans: so many bytes of a slice from a place on, copied, set, compared, tested for 00h. Every public function is total.
+ghost use Prim.Native.Nat.{_+_, _≤_};
 ghost use lib.ListN.{length};
-ghost use Rattle.span.specs.Span.{Copied, Piece, CopyOutcome, StripOutcome};
+ghost use Rattle.span.specs.Decision.{Decides};
+ghost use Rattle.span.specs.Span.{Copied, Piece, CopyOutcome, StripOutcome, SetOutcome, SameBytes, ZeroBytes};
 
 // Copies n bytes of `src` from `from` on to `dst` from `to` on, where both spans lie inside; else changes nothing.
 pub fn copy(src: &[u8], dst: &mut [u8], from: usize, to: usize, n: usize) -> bool
@@ -37,6 +36,57 @@ pub fn copy_strip(src: &[u8], dst: &mut [u8], from: usize, to: usize) -> [u8; 64
     strip(src, dst, from, to)
 }
 
+// Makes the n bytes from `at` on v, where they lie inside; else changes nothing.
+pub fn set(s: &mut [u8], at: usize, n: usize, v: u8) -> bool
+    ensures { λ r. ⌜ SetOutcome (now (s .entry)) at n v (now (s .exit)) r ⌝ }
+{
+    if !inside(s.len(), at, n) {
+        return false;
+    }
+    let mut i = 0;
+    while i < n {
+        s[at + i] = v;
+        i += 1;
+    }
+    true
+}
+
+// Whether the n bytes of `a` from `from` on and of `b` from `to` on lie inside and agree. The differences are joined by or: without an
+// early exit many bytes are compared at once.
+pub fn same(a: &[u8], b: &[u8], from: usize, to: usize, n: usize) -> bool
+    ensures { λ r. ⌜ Decides (SameBytes (now (a .entry)) from (now (b .entry)) to n) r ⌝ }
+{
+    if !inside(a.len(), from, n) {
+        return false;
+    }
+    if !inside(b.len(), to, n) {
+        return false;
+    }
+    let mut any: u8 = 0;
+    let mut i = 0;
+    while i < n {
+        any = any | (a[from + i] ^ b[to + i]);
+        i += 1;
+    }
+    any == 0
+}
+
+// Whether the n bytes from `at` on lie inside and are 00h, in the same way.
+pub fn zeros(s: &[u8], at: usize, n: usize) -> bool
+    ensures { λ r. ⌜ Decides (ZeroBytes (now (s .entry)) at n) r ⌝ }
+{
+    if !inside(s.len(), at, n) {
+        return false;
+    }
+    let mut any: u8 = 0;
+    let mut i = 0;
+    while i < n {
+        any = any | s[at + i];
+        i += 1;
+    }
+    any == 0
+}
+
 // Each piece is read once, and put in the slice and in the answer.
 fn strip(src: &[u8], dst: &mut [u8], from: usize, to: usize) -> [u8; 64]
     requires { ⌜ (from + 64 ≤ length (now src)) × (to + 64 ≤ length (now dst)) ⌝ }
@@ -55,7 +105,7 @@ fn strip(src: &[u8], dst: &mut [u8], from: usize, to: usize) -> [u8; 64]
 
 // Whether n bytes from `at` on lie inside a slice of `len` bytes. The difference avoids a sum that could wrap.
 fn inside(len: usize, at: usize, n: usize) -> bool
-    ensures { λ r. ⌜ (r ≡ true → at + n ≤ len) × (r ≡ false → len < at + n) ⌝ }
+    ensures { λ r. ⌜ Decides (at + n ≤ len) r ⌝ }
 {
     if len < n {
         return false;

@@ -1,4 +1,4 @@
--- The laws of stopping sets, over any family of lines and any set of cells.
+-- The laws of stopping sets, over any family of lines and any set of cells, and over the lines of a cube.
 -- how many members a set has: comparing, choosing and counting in blocks
 pub mod Number
 -- unions, the largest, peeling
@@ -7,5 +7,7 @@ pub mod Stopping
 pub mod Cube
 -- the largest of a list of lines, computed
 pub mod Peeling
--- the cube's lines as a list, and the examples
+-- the cube's lines as a list
 pub mod CubeLines
+-- what document 01 says of them
+pub mod Theorems

@@ -210,14 +210,6 @@ choose-three P n h =
     let (i, li, ei, ri) = ranked P j 0 (omega arith) in
     (i, j, k, li, lj, lk, ei, ej, ek)
 
-pub three-members : (P : ℕ → Bool) (n i j k : ℕ) → i < n → j < n → k < n → i ≢ j → i ≢ k → j ≢ k → P i ≡ true → P j ≡ true → P k ≡ true
-    → 3 ≤ number P n
-three-members P n i j k li lj lk ij ik jk ei ej ek =
-    let a : number P i ≢ number P j = λ e. ij (rank-injective P i j ei ej e) in
-    let b : number P i ≢ number P k = λ e. ik (rank-injective P i k ei ek e) in
-    let c : number P j ≢ number P k = λ e. jk (rank-injective P j k ej ek e) in
-    omega (arith, rank-lt P i n li ei, rank-lt P j n lj ej, rank-lt P k n lk ek)
-
 -- three members leave one off any two places
 pub member-off : (P : ℕ → Bool) (n p q : ℕ) → 3 ≤ number P n → (i : ℕ) × (i < n) × (i ≢ p) × (i ≢ q) × (P i ≡ true)
 member-off P n p q h =

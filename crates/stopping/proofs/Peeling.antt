@@ -9,6 +9,7 @@ use native.Mathlib.Decide.{ℕ-discrete}
 use native.Mathlib.Omega.{arith}
 use lib.ListN.{getD, set}
 use lib.Seq.{getD-set-other}
+use Rattle.shape.specs.declared.Line.{Line}
 use Rattle.stopping.specs.Stopping.{number, onLine, Stopping, Largest}
 use Rattle.stopping.proofs.Number.{true-or-false, number-mono, number-less, number-le, member}
 use Rattle.stopping.proofs.Stopping.{Inside, Fits, peel-inside, peel-end}
@@ -39,11 +40,6 @@ unfolding has
 has-set-other R j i ne = getD-set-other R j i false false ne
 
 -- ---- definitions
-
-pub record Line : Type 0 where
-  pub first : ℕ
-  pub stride : ℕ
-  pub len : ℕ
 
 -- the lines of a list as a family
 abbrev pub Among : List Line → ℕ → ℕ → ℕ → Type 0

@@ -180,13 +180,3 @@ module _ {cells : ℕ} {L : ℕ → ℕ → ℕ → Type 0} where
   pub peel-end : {M R : ℕ → Bool} → Inside cells R M → ((S : ℕ → Bool) → Stopping cells L M S → Inside cells S R)
       → ((first stride len : ℕ) → L first stride len → (onLine R first stride len ≡ 0) ⊎ (3 ≤ onLine R first stride len)) → Largest cells L M R
   peel-end h every stops = record { stopping = record { inside = h; meets = stops }; every = every }
-
--- the same lines in two families
-pub largest-family : {cells : ℕ} {L L' : ℕ → ℕ → ℕ → Type 0} {M K : ℕ → Bool}
-    → ((first stride len : ℕ) → L first stride len → L' first stride len) → ((first stride len : ℕ) → L' first stride len → L first stride len)
-    → Largest cells L M K → Largest cells L' M K
-largest-family to from u =
-    record {
-      stopping = record { inside = u .stopping .inside; meets = λ f s n l. u .stopping .meets f s n (from f s n l) };
-      every = λ S v. u .every S (record { inside = v .inside; meets = λ f s n l. v .meets f s n (to f s n l) });
-    }

@@ -7,23 +7,25 @@ use native.Mathlib.Omega.{arith}
 use lib.ListN.{length, take, drop, length-append}
 use lib.Seq.{take-at, length-take-le}
 use borrow.Author.Tests.{eq-eqb}
-use Rattle.cube.specs.declared.Shape.{Shape}
-use Rattle.cube.specs.declared.Refusal.{Refusal}
-use Rattle.cube.specs.declared.Answer.{Answer}
-use Rattle.cube.specs.declared.Answer.the-variants.{Done}
-use Rattle.cube.specs.Shapes.{cells}
-use Rattle.cube.proofs.Valid.{both-true}
-use Rattle.pack.specs.declared.Header.{Header}
-use Rattle.pack.specs.declared.JobRead.the-variants.{Job, NoJob}
-use Rattle.pack.specs.Reading.{jobOf}
-use Rattle.writer.specs.Write.{packSize, writeChecked, WriteOutcome}
-use Rattle.writer.specs.Write as write
 use Rattle.io.specs.Counts.{Counts}
-use Rattle.text.specs.Text.{ascii, refusedLine, tooBigLine}
-use Rattle.text.specs.Append.{Appended}
-use Rattle.text.proofs.Appending.{append-whole}
-use Rattle.text.proofs.Numerals.{length-refusedLine}
-use Rattle.write.specs.Prints.{Prints, input-too-big, refused, pack-too-big, pack}
+use Rattle.field.specs.Field.{reduction}
+use Rattle.answer.specs.declared.Refusal.{Refusal}
+use Rattle.answer.specs.Values.{Value, passes, check, andThen, checked, refusal, numberOf}
+use Rattle.answer.proofs.Values.{passes-fails, checked-fails}
+use Rattle.shape.specs.declared.Shape.{Shape}
+use Rattle.shape.specs.Shapes.{cells, sizes}
+use Rattle.shape.proofs.Valid.{both-true}
+use Rattle.pack.specs.declared.Header.{Header}
+use Rattle.pack.specs.declared.Section.{Section}
+use Rattle.pack.specs.Packs.{packSize}
+use Rattle.pack.specs.Reading.{jobOf}
+use Rattle.pack.proofs.Sound.{job-sound}
+use Rattle.writer.specs.Write.{writeChecked, WriteOutcome, write-refused, write-done}
+use Rattle.printing.specs.Text.{ascii, refusedLine, tooBigLine}
+use Rattle.printing.specs.Append.{Appended}
+use Rattle.printing.proofs.Appending.{append-whole}
+use Rattle.printing.proofs.Numerals.{length-refusedLine}
+use Rattle.write.specs.Prints.{Prints, input-too-big, input-refused, pack-too-big, pack}
 
 -- ---- a line
 
@@ -38,49 +40,57 @@ module _ (p out after : List ℕ) (end : ℕ) (size : length out ≡ 65536) wher
   input-too-big-printed a h = line-printed (ascii "too big\n") (omega arith) a (input-too-big h)
 
   module _ (short : length p ≤ 65536) where
-    pub refused-printed : (f : Refusal) → Appended out 0 (refusedLine f) after end → jobOf p ≡ NoJob f
-        → Counts end after × Prints p (take end after)
-    refused-printed f a e = line-printed (refusedLine f) (omega (arith, length-refusedLine f)) a (refused f short e)
+    -- the number of a refusal by the checks
+    pub refused-printed : (f : Refusal) (n : ℕ) → Appended out 0 (refusedLine n) after end → n ≡ numberOf {A = Unit} (refusal f)
+        → refusal f ≡ checked (jobOf p) → Counts end after × Prints p (take end after)
+    unfolding numberOf
+    refused-printed f n a e c =
+        let (m, failed, value) = checked-fails {B = Unit} (jobOf p) f c in
+        let same : n ≡ m = e ∙ ap numberOf value in
+        line-printed (refusedLine n) (omega (arith, length-refusedLine n)) a (rw same (input-refused m short failed))
 
-    pub pack-too-big-printed : Appended out 0 (ascii "too big\n") after end → (h : Header) (n : ℕ) → jobOf p ≡ Job h n
+    pub pack-too-big-printed : Appended out 0 (ascii "too big\n") after end → (h : Header) (s : Section) → jobOf p ≡ passes (h, s)
         → 65536 < packSize (h .shape) → Counts end after × Prints p (take end after)
     unfolding tooBigLine
-    pack-too-big-printed a h n e l = line-printed (ascii "too big\n") (omega arith) a (pack-too-big h n short e l)
+    pack-too-big-printed a h s e l = line-printed (ascii "too big\n") (omega arith) a (pack-too-big h s short e l)
 
 -- ---- the pack
 
 -- the cube is smaller than the pack
-pub cube-le-pack : (sh : Shape) → sh .w * cells sh ≤ packSize sh
+cube-le-pack : (sh : Shape) → sh .w * cells sh ≤ packSize sh
 unfolding packSize
 cube-le-pack sh =
     let m : cells sh * sh .w ≤ cells sh * (3 + sh .w) = mul-le-mul-left (cells sh) (omega arith) in
     omega (arith, mul-comm (sh .w) (cells sh))
 
--- with exact lengths nothing is refused
-written-prints : (p xs out xs′ out′ : List ℕ) (h : Header) (n : ℕ) {r : Answer} → length p ≤ 65536 → jobOf p ≡ Job h n
-    → packSize (h .shape) ≤ 65536 → length xs ≡ h .shape .w * cells (h .shape) → length out ≡ packSize (h .shape)
-    → WriteOutcome p xs out xs′ out′ r → Prints p out′
-unfolding writeChecked
-written-prints p xs out xs′ out′ h n short e fits cube output (write.refused f checked same kept) =
-    let done : writeChecked (jobOf p) (length xs) (length out) ≡ Done
-    = rw (e, both-true _ _ (eq-eqb (length xs) _ cube) (eq-eqb (length out) _ output)) in
-    let z : _≡_ {A = ℕ} 0 1 = cc in
-    absurd (omega arith)
-written-prints p xs out xs′ out′ h n short e fits cube output (write.written sh m found checked w) =
-    let same : h ≡ record { shape = sh } = cc in
-    let fits′ : packSize sh ≤ 65536 = rw same at fits in
-    pack (record { shape = sh }) m xs′ out′ short found fits′ w
+module _ (p : List ℕ) (h : Header) (s : Section) (job : jobOf p ≡ passes (h, s)) where
+  -- with exact lengths nothing is refused
+  written-prints : (xs out xs′ out′ : List ℕ) {v : Value Unit} → length p ≤ 65536 → packSize (h .shape) ≤ 65536
+      → length xs ≡ h .sizes .bytes → length out ≡ packSize (h .shape) → WriteOutcome reduction p xs out xs′ out′ v → Prints p out′
+  unfolding writeChecked andThen check
+  written-prints xs out xs′ out′ short fits cube output (write-refused n refused _ _) =
+      let done : writeChecked p (length xs) (length out) ≡ passes (h, s)
+      = rw (job, both-true _ _ (eq-eqb (length xs) _ cube) (eq-eqb (length out) _ output)) in
+      absurd (passes-fails (h, s) n (sym done ∙ refused))
+  written-prints xs out xs′ out′ short fits cube output (write-done g t checks w) =
+      pack h s short job fits xs out xs′ out′ (write-done g t checks w)
 
-pub pack-printed : (p xs out xs′ out′ : List ℕ) (h : Header) (n bytes size : ℕ) {r : Answer} → length p ≤ 65536 → jobOf p ≡ Job h n
-    → length xs ≡ 65536 → length out ≡ 65536 → bytes ≡ h .shape .w * cells (h .shape) → size ≡ packSize (h .shape) → size ≤ 65536
-    → length out′ ≡ length (take size out)
-    → WriteOutcome p (take bytes xs) (take size out) xs′ out′ r
-    → Counts size (out′ ++ drop size out) × Prints p (take size (out′ ++ drop size out))
-pack-printed p xs out xs′ out′ h n bytes size short e cube output b s fits kept o =
-    let l = cube-le-pack (h .shape) in
-    let m : length (take size out) ≡ size = length-take-le size out (omega arith) in
-    let k : length (take bytes xs) ≡ bytes = length-take-le bytes xs (omega arith) in
-    let part : take size (out′ ++ drop size out) ≡ out′ = take-at out′ (drop size out) size (kept ∙ m) in (
-      (omega (arith, length-append out′ (drop size out)), sym (ap length part ∙ kept ∙ m)),
-      rw part (written-prints p (take bytes xs) (take size out) xs′ out′ h n short e (omega arith) (k ∙ b) (m ∙ s) o),
-    )
+  -- so the parts that are lent lie in memory
+  pub cube-fits : (size : ℕ) → size ≡ packSize (h .shape) → size ≤ 65536 → h .sizes .bytes ≤ 65536
+  unfolding sizes
+  cube-fits size e l =
+      let b : h .sizes .bytes ≡ h .shape .w * cells (h .shape) = rw (job-sound p h s job .header .measured) in
+      omega (arith, cube-le-pack (h .shape))
+
+  pub pack-printed : (xs out xs′ out′ : List ℕ) (size : ℕ) {v : Value Unit} → length p ≤ 65536
+      → length xs ≡ 65536 → length out ≡ 65536 → size ≡ packSize (h .shape) → size ≤ 65536 → length out′ ≡ length (take size out)
+      → WriteOutcome reduction p (take (h .sizes .bytes) xs) (take size out) xs′ out′ v
+      → Counts size (out′ ++ drop size out) × Prints p (take size (out′ ++ drop size out))
+  pack-printed xs out xs′ out′ size short cube output e fits kept o =
+      let b = cube-fits size e fits in
+      let m : length (take size out) ≡ size = length-take-le size out (omega arith) in
+      let k : length (take (h .sizes .bytes) xs) ≡ h .sizes .bytes = length-take-le _ xs (omega arith) in
+      let part : take size (out′ ++ drop size out) ≡ out′ = take-at out′ (drop size out) size (kept ∙ m) in (
+        (omega (arith, length-append out′ (drop size out)), sym (ap length part ∙ kept ∙ m)),
+        rw part (written-prints (take (h .sizes .bytes) xs) (take size out) xs′ out′ short (omega arith) k (m ∙ e) o),
+      )

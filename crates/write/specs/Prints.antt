@@ -3,21 +3,23 @@ use mathlib.Core.Path.{_≡_}
 use mathlib.Core.List.{List}
 use Prim.Native.Nat.{ℕ, _≤_, _<_}
 use lib.ListN.{length}
-use Rattle.cube.specs.declared.Refusal.{Refusal}
+use Rattle.field.specs.Field.{reduction}
+use Rattle.answer.specs.Values.{gives, passes, fails}
 use Rattle.pack.specs.declared.Header.{Header}
-use Rattle.pack.specs.declared.JobRead.the-variants.{Job, NoJob}
+use Rattle.pack.specs.declared.Section.{Section}
+use Rattle.pack.specs.Packs.{packSize}
 use Rattle.pack.specs.Reading.{jobOf}
-use Rattle.writer.specs.Write.{packSize, fileOf, Written}
-use Rattle.text.specs.Text.{refusedLine, tooBigLine}
+use Rattle.writer.specs.Write.{WriteOutcome}
+use Rattle.printing.specs.Text.{refusedLine, tooBigLine}
 
 -- "Input above 65,536 bytes prints `too big` before any check; a cube or written pack above 65,536 bytes prints it in the place of 4."
 -- The pack is larger than its cube. "Write gives the pack's bytes."
 pub data Prints (p : List ℕ) : List ℕ → Type 0 where
   input-too-big : 65536 < length p → Prints p tooBigLine
-  refused : (f : Refusal) → length p ≤ 65536 → jobOf p ≡ NoJob f → Prints p (refusedLine f)
+  input-refused : (n : ℕ) → length p ≤ 65536 → jobOf p ≡ fails n → Prints p (refusedLine n)
   pack-too-big :
-      (h : Header) (n : ℕ) → length p ≤ 65536 → jobOf p ≡ Job h n → 65536 < packSize (h .shape) →
+      (h : Header) (s : Section) → length p ≤ 65536 → jobOf p ≡ passes (h, s) → 65536 < packSize (h .shape) →
       Prints p tooBigLine
   pack :
-      (h : Header) (n : ℕ) (xs out : List ℕ) → length p ≤ 65536 → jobOf p ≡ Job h n → packSize (h .shape) ≤ 65536 →
-      Written (h .shape) (fileOf p n) xs out → Prints p out
+      (h : Header) (s : Section) → length p ≤ 65536 → jobOf p ≡ passes (h, s) → packSize (h .shape) ≤ 65536 →
+      (xs out xs′ out′ : List ℕ) → WriteOutcome reduction p xs out xs′ out′ (gives tt) → Prints p out′

@@ -1,18 +1,20 @@
 // Write: reads a job pack on standard input and writes the pack of every packet of its file, or says why not.
-use cube::Shape;
 use libc::STDIN_FILENO;
 use libc::STDOUT_FILENO;
+use pack::Header;
 use pack::JobRead;
-use text::LIMIT;
+use pack::PackSize;
+use printing::LIMIT;
 ghost use mathlib.Core.Path.{_≡_};
-ghost use Prim.Native.Nat.{_*_};
+ghost use Prim.Native.Nat.{_≤_};
 ghost use lib.ListN.{length, take};
-ghost use Rattle.cube.specs.Shapes.{Valid, cells};
-ghost use Rattle.writer.specs.Write.{packSize};
 ghost use Rattle.io.specs.Counts.{Counts};
+ghost use Rattle.answer.specs.Values.{passes};
+ghost use Rattle.pack.specs.declared.Section.{Section};
+ghost use Rattle.pack.specs.Reading.{jobOf};
 ghost use Rattle.write.specs.Prints.{Prints};
 
-// One byte more than an input may have is read, so that a longer one is told.
+// One byte more than an input may have is read, so that a longer one is told. What is written is one piece, which `print` names.
 fn main() {
     let mut input = [0u8; LIMIT + 1];
     let n = io::read_full(STDIN_FILENO, &mut input);
@@ -29,33 +31,31 @@ fn print(job: &[u8], cube: &mut [u8], output: &mut [u8]) -> usize
     ensures { λ r. ⌜ Prints (now (job .entry)) (take r (now (output .exit))) ⌝ }
 {
     if job.len() > LIMIT {
-        return text::append(output, 0, b"too big\n");
+        return printing::append(output, 0, b"too big\n");
     }
     match pack::read_job(job) {
-        JobRead::NoJob(f) => text::append_refused(output, 0, f),
-        JobRead::Job(h, _) => {
-            let sh = h.shape;
-            let size = pack_size(sh);
+        JobRead::Refused(f) => printing::append_refused(output, 0, answer::number(f)),
+        JobRead::Job(h, _) => print_pack(job, cube, output, h),
+    }
+}
+
+// The same for a job that passes the checks down to 8, and so has a size: the pack of its packets, in memory of the exact lengths.
+fn print_pack(job: &[u8], cube: &mut [u8], output: &mut [u8], h: Header) -> usize
+    requires { ⌜ (length (now cube) ≡ 65536) × (length (now output) ≡ 65536) × (length (now job) ≤ 65536)
+        × ((s : Section) × (jobOf (now job) ≡ passes (h, s))) ⌝ }
+    ensures { λ r. ⌜ Counts r (now (output .exit)) ⌝ }
+    ensures { λ r. ⌜ Prints (now (job .entry)) (take r (now (output .exit))) ⌝ }
+{
+    match pack::pack_bytes(h.shape) {
+        PackSize::Refused(_) => 0,
+        PackSize::Bytes(size) => {
             if size > LIMIT {
-                return text::append(output, 0, b"too big\n");
+                return printing::append(output, 0, b"too big\n");
             }
-            let bytes = cube_size(sh);
+            let z = h.sizes;
+            let bytes = z.bytes;
             writer::write_pack(job, &mut cube[..bytes], &mut output[..size]);
             size
         }
     }
-}
-
-fn pack_size(sh: Shape) -> usize
-    requires { ⌜ Valid sh ⌝ }
-    ensures { λ r. ⌜ r ≡ packSize sh ⌝ }
-{
-    17 + sh.l1 * sh.l2 * sh.l3 * (3 + sh.w)
-}
-
-fn cube_size(sh: Shape) -> usize
-    requires { ⌜ Valid sh ⌝ }
-    ensures { λ r. ⌜ r ≡ sh .w * cells sh ⌝ }
-{
-    sh.w * (sh.l1 * sh.l2 * sh.l3)
 }

@@ -1,4 +1,4 @@
--- Why the crate `writer` meets its contracts: bytes put one after the other (`Putting`), the sections made of them (`Sections`), the answer (`Outcome`).
-pub mod Putting
-pub mod Sections
-pub mod Outcome
+-- Why the crate `writer` meets its contract: the encoded file and the answer (`Outcomes`); that the contract leaves nothing open, and that every file
+-- that fits is taken (`Taken`).
+pub mod Outcomes
+pub mod Taken

@@ -1,3 +1,2 @@
--- What a reader of the crate `writer` must believe; `Put` is for the private functions only.
+-- What a reader of the crate `writer` must believe.
 pub mod Write
-pub mod Put

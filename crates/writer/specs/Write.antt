@@ -1,51 +1,36 @@
 -- The writer (document 01, "Packs"): what `write_pack` answers and leaves for every input.
 use mathlib.Core.Path.{_≡_}
-use mathlib.Core.Bool.{cond}
 use mathlib.Core.List.{List}
-use Prim.Native.Nat.{ℕ, _+_, _*_}
+use Prim.Native.Nat.{ℕ}
 use lib.Dec.{eqb}
-use lib.ListN.{length, take, drop}
-use Rattle.field.specs.Field.{reduction}
-use Rattle.cube.specs.declared.Shape.{Shape}
-use Rattle.cube.specs.declared.Fault.the-variants.{SliceLength}
-use Rattle.cube.specs.declared.Refusal.{Refusal}
-use Rattle.cube.specs.declared.Refusal.the-variants.{Plain}
-use Rattle.cube.specs.declared.Answer.{Answer}
-use Rattle.cube.specs.declared.Answer.the-variants.{Done, Refused}
-use Rattle.cube.specs.Shapes.{both, cells}
-use Rattle.cube.specs.Cube.{CodeCube, HoldsData}
-use Rattle.pack.specs.declared.JobRead.{JobRead}
-use Rattle.pack.specs.declared.JobRead.the-variants.{Job, NoJob}
-use Rattle.pack.specs.Packs.{airPack, upFrom, dataString}
-use Rattle.pack.specs.Reading.{jobOf}
-
--- "17 + cells × (3 + W) bytes"
-unfoldable pub packSize : Shape → ℕ
-packSize sh = 17 + cells sh * (3 + sh .w)
+use lib.ListN.{length}
+use Rattle.answer.specs.Values.{Value, gives, refused, Checked, passes, fails, check, andThen}
+use Rattle.shape.specs.declared.Shape.{Shape}
+use Rattle.shape.specs.Shapes.{both}
+use Rattle.cube.specs.Theorems.{OnlyCodeCube}
+use Rattle.pack.specs.declared.Header.{Header}
+use Rattle.pack.specs.declared.Section.{Section}
+use Rattle.pack.specs.Packs.{airPack, everyPacket, packSize, dataString}
+use Rattle.pack.specs.Reading.{jobOf, fileOf}
 
 -- the pack's checks, then 4 for the cube and the output
-unfoldable pub writeChecked : JobRead → ℕ → ℕ → Answer
-writeChecked (NoJob f) cubeLength outputLength = Refused f
-writeChecked (Job h n) cubeLength outputLength =
-    cond (both (eqb cubeLength (h .shape .w * cells (h .shape))) (eqb outputLength (packSize (h .shape)))) Done
-    (Refused (Plain SliceLength))
+unfoldable pub writeChecked : List ℕ → ℕ → ℕ → Checked (Header × Section)
+writeChecked p cubeLength outputLength =
+    andThen (jobOf p) (λ job.
+    check (both (eqb cubeLength (job .0 .sizes .bytes)) (eqb outputLength (packSize (job .0 .shape)))) 4
+    (passes job))
 
--- the file in a job pack: the bytes that section 2 counts
-unfoldable pub fileOf : List ℕ → ℕ → List ℕ
-fileOf p n = take n (drop 13 p)
-
--- What the writer leaves: the code cube of the file's data string, and the pack of every cell in cell order.
-pub record Written (sh : Shape) (file xs out : List ℕ) : Type 0 where
-  pub code : CodeCube reduction sh xs
-  pub holds : HoldsData sh xs (dataString sh file)
-  pub pack : out ≡ airPack sh xs (upFrom 0 (cells sh))
+-- What the writer leaves: "a cube, which afterwards holds the code cube" of the file's data string, and a pack "with section 2 count 0 and every
+-- cell in cell order".
+pub record Written (r : ℕ) (sh : Shape) (file xs out : List ℕ) : Type 0 where
+  pub cube : OnlyCodeCube r sh (dataString sh file) xs
+  pub pack : out ≡ airPack sh (everyPacket sh xs)
 
 -- A refusal changes no lent byte.
-pub data WriteOutcome (p xs out xs′ out′ : List ℕ) : Answer → Type 0 where
-  refused :
-      (f : Refusal) → writeChecked (jobOf p) (length xs) (length out) ≡ Refused f →
-      xs′ ≡ xs → out′ ≡ out → WriteOutcome p xs out xs′ out′ (Refused f)
-  written :
-      (sh : Shape) (n : ℕ) → jobOf p ≡ Job (record { shape = sh }) n →
-      writeChecked (jobOf p) (length xs) (length out) ≡ Done →
-      Written sh (fileOf p n) xs′ out′ → WriteOutcome p xs out xs′ out′ Done
+pub data WriteOutcome (r : ℕ) (p xs out xs′ out′ : List ℕ) : Value Unit → Type 0 where
+  write-refused :
+      (n : ℕ) → writeChecked p (length xs) (length out) ≡ fails n → xs′ ≡ xs → out′ ≡ out →
+      WriteOutcome r p xs out xs′ out′ (refused n)
+  write-done :
+      (h : Header) (file : Section) → writeChecked p (length xs) (length out) ≡ passes (h, file) →
+      Written r (h .shape) (fileOf p file) xs′ out′ → WriteOutcome r p xs out xs′ out′ (gives tt)

@@ -1,69 +1,60 @@
 // The writer: a job pack with a file becomes an air pack with every packet of the file's code cube.
-mod data_string;
-mod packets;
-mod place;
-
-use cube::Answer;
-use cube::Fault;
-use cube::Measured;
-use cube::Refusal;
-use cube::Shape;
+use answer::Answer;
+use answer::Fault;
+use answer::Refusal;
+use pack::Header;
 use pack::JobRead;
+use pack::PackSize;
+use pack::Section;
 ghost use mathlib.Core.Path.{_≡_};
-ghost use Prim.Native.Nat.{_+_, _*_, _≤_};
 ghost use lib.Dec.{eqb};
-ghost use lib.ListN.{length};
+ghost use lib.ListN.{length, take};
+ghost use Rattle.answer.specs.Values.{answerValue};
 ghost use Rattle.field.specs.Field.{reduction};
-ghost use Rattle.cube.specs.Shapes.{Valid, both, cells, capacity};
-ghost use Rattle.cube.specs.Cube.{CodeCube, HoldsData};
-ghost use Rattle.pack.specs.Packs.{dataString};
-ghost use Rattle.writer.specs.Write.{packSize, fileOf, WriteOutcome};
+ghost use Rattle.shape.specs.Shapes.{Valid, both};
+ghost use Rattle.pack.specs.Packs.{packSize, dataString};
+ghost use Rattle.pack.specs.Reading.{fileOf};
+ghost use Rattle.pack.proofs.Sound.{JobSound};
+ghost use Rattle.writer.specs.Write.{WriteOutcome};
 
 // Writes the code cube of the pack's file to `cube` and the pack of its packets to `output`.
 pub fn write_pack(job: &[u8], cube: &mut [u8], output: &mut [u8]) -> Answer
-    ensures { λ r. ⌜ WriteOutcome (now (job .entry)) (now (cube .entry)) (now (output .entry)) (now (cube .exit)) (now (output .exit)) r ⌝ }
+    ensures { λ r. ⌜ WriteOutcome reduction (now (job .entry)) (now (cube .entry)) (now (output .entry)) (now (cube .exit)) (now (output .exit)) (answerValue r) ⌝ }
 {
     match pack::read_job(job) {
-        JobRead::NoJob(f) => Answer::Refused(f),
-        JobRead::Job(h, n) => {
-            let sh = h.shape;
-            if !slices_fit(sh, cube.len(), output.len()) {
+        JobRead::Refused(f) => Answer::Refused(f),
+        JobRead::Job(h, file) => {
+            if !slices_fit(h, cube.len(), output.len()) {
                 return Answer::Refused(Refusal::Plain(Fault::SliceLength));
             }
-            encode_file(job, cube, output, sh, n);
-            packets::write_all(cube, output, sh);
+            lay_file(job, output, h, file);
+            let capacity = h.sizes.capacity;
+            cube::encode(&output[..capacity], cube, h.shape);
+            pack::write_air(cube, output, h.shape);
             Answer::Done
         }
     }
 }
 
-// Whether the cube and the output have the lengths that the shape asks for.
-fn slices_fit(sh: Shape, bytes: usize, output: usize) -> bool
-    requires { ⌜ Valid sh ⌝ }
-    ensures { λ r. ⌜ r ≡ both (eqb bytes (sh .w * cells sh)) (eqb output (packSize sh)) ⌝ }
+// Whether the cube and the output have the lengths that the header asks for.
+fn slices_fit(h: Header, bytes: usize, output: usize) -> bool
+    requires { ⌜ Valid (h .shape) ⌝ }
+    ensures { λ r. ⌜ r ≡ both (eqb bytes (h .sizes .bytes)) (eqb output (packSize (h .shape))) ⌝ }
 {
-    let cells = sh.l1 * sh.l2 * sh.l3;
-    let w = sh.w;
-    bytes == w * cells && output == 17 + cells * (3 + w)
+    let asked = pack::pack_bytes(h.shape);
+    let PackSize::Bytes(size) = asked else {
+        return false;
+    };
+    let sizes = h.sizes;
+    bytes == sizes.bytes && output == size
 }
 
-// Builds the data string in the output's first bytes, which the pack overwrites later, and encodes it.
-fn encode_file(job: &[u8], cube: &mut [u8], output: &mut [u8], sh: Shape, n: usize)
-    requires { ⌜ Valid sh × (4 + n ≤ capacity sh) × (13 + n ≤ length (now job)) × (length (now cube) ≡ sh .w * cells sh) × (length (now output) ≡ packSize sh) ⌝ }
-    ensures { λ _. ⌜ CodeCube reduction sh (now (cube .exit)) × HoldsData sh (now (cube .exit)) (dataString sh (fileOf (now (job .entry)) n)) ⌝ }
+// Builds the data string in the output's first bytes, which the pack overwrites later.
+fn lay_file(job: &[u8], output: &mut [u8], h: Header, file: Section)
+    requires { ⌜ JobSound (now job) h file × (length (now output) ≡ packSize (h .shape)) ⌝ }
+    ensures { λ _. ⌜ take (h .sizes .capacity) (now (output .exit)) ≡ dataString (h .shape) (fileOf (now (job .entry)) file) ⌝ }
 {
-    let capacity = capacity_of(sh);
-    let end = 13 + n;
-    data_string::build(&job[13..end], &mut output[..capacity]);
-    cube::encode(&output[..capacity], cube, sh);
-}
-
-fn capacity_of(sh: Shape) -> usize
-    requires { ⌜ Valid sh ⌝ }
-    ensures { λ r. ⌜ r ≡ capacity sh ⌝ }
-{
-    match cube::measure(sh) {
-        Measured::Misfit(_) => 0,
-        Measured::Fits(z) => z.capacity,
-    }
+    let sizes = h.sizes;
+    let capacity = sizes.capacity;
+    pack::write_data(job, file, &mut output[..capacity]);
 }

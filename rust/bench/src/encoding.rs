@@ -3,7 +3,7 @@
 use std::hint::black_box;
 use std::time::Duration;
 
-use jibrufath::{Shape, encode, read_data};
+use jibrufath::{Shape, encode, extract};
 use reference::random::Random;
 
 use crate::cube_encoder::{CubeEncoder, Order};
@@ -79,8 +79,8 @@ pub fn table() -> Vec<Ratio> {
 
 impl Encoding {
     fn new(shape: Shape) -> Encoding {
-        let bytes = shape.cube_len().expect("the shape is good");
-        let data_bytes = shape.data_len().expect("the shape is good");
+        let bytes = shape.cube_bytes().expect("the shape is good");
+        let data_bytes = shape.capacity().expect("the shape is good");
         Encoding {
             shape,
             data: Random::new(5).bytes(data_bytes),
@@ -111,7 +111,7 @@ impl Encoding {
 
     /// Whether GF-Complete takes the packets as they stand.
     fn aligned(&self) -> bool {
-        self.shape.w.is_multiple_of(ALIGNMENT)
+        self.shape.w % ALIGNMENT == 0
     }
 
     fn encode_by_gf_complete(&mut self) {
@@ -183,7 +183,7 @@ impl Encoding {
 
     fn check_data(&self) {
         let mut data = vec![0; self.data.len()];
-        read_data(self.shape, &self.cube, &mut data).expect("reads");
+        extract(self.shape, &self.cube, &mut data).expect("reads");
         assert!(data == self.data, "the cube has other data");
     }
 }

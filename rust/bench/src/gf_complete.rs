@@ -60,7 +60,7 @@ impl LineCode for GfLine {
     fn encode(&mut self, memory: &mut [u8], first: usize, step: usize, len: usize) {
         let k = self.powers.len();
         assert!(first + (k + PARITY - 1) * step + len <= memory.len());
-        assert!(len <= step && step.is_multiple_of(ALIGNMENT));
+        assert!(len <= step && step % ALIGNMENT == 0);
         let base = memory.as_mut_ptr();
         for (i, &power) in self.powers.iter().enumerate() {
             for (parity, factor) in [(k, 1), (k + 1, power)] {

@@ -2,7 +2,7 @@
 
 use std::hint::black_box;
 
-use jibrufath::{Refusal, Shape, encode, fill, receive_pack, write};
+use jibrufath::{Error, Refusal, Shape, encode, fill, receive_pack, write};
 use reference::random::Random;
 
 use crate::repair::Repair;
@@ -42,7 +42,7 @@ struct Sized {
 }
 
 /// Prints and gives the times for cubes of growing size.
-pub fn by_size() -> Result<Vec<Size>, Refusal> {
+pub fn by_size() -> Result<Vec<Size>, Error> {
     println!("Growth with the cube's size, in milliseconds: L × L × 25, W 397.");
     println!("\n| L | megabytes | {} |", WORK.join(" | "));
     println!("|---|---|{}", "---|".repeat(WORK.len()));
@@ -101,11 +101,11 @@ pub fn by_share_lost() -> Result<Vec<Share>, Refusal> {
 
 impl Sized {
     /// A cube of random data, encoded, and the pack of a random file.
-    fn new(shape: Shape) -> Result<Sized, Refusal> {
+    fn new(shape: Shape) -> Result<Sized, Error> {
         let mut random = Random::new(10);
-        let data = random.bytes(shape.data_len()?);
-        let file = random.bytes(shape.file_len()?);
-        let mut cube = vec![1; shape.cube_len()?];
+        let data = random.bytes(shape.capacity()?);
+        let file = random.bytes(shape.file_bytes()?);
+        let mut cube = vec![1; shape.cube_bytes()?];
         encode(shape, &data, &mut cube)?;
         Ok(Sized {
             shape,

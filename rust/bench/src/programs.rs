@@ -65,7 +65,7 @@ struct Table {
 
 /// Prints the table.
 pub fn table() -> Result<(), Box<dyn Error>> {
-    let data_len = REFERENCE_SET.data_len()?;
+    let data_len = REFERENCE_SET.capacity()?;
     println!(
         "\
 Encode of {data_len} random bytes by programs, in one thread, with as much parity as 69 × 69 × 25 has: {:.1} % of the data.
@@ -100,7 +100,7 @@ fn print_missing(program: &str, package: &str) {
 
 /// The parity blocks that so many source blocks need for the reference set's share of redundancy.
 fn parity(blocks: usize) -> Result<usize, Refusal> {
-    let data_cells = REFERENCE_SET.data_len()? / REFERENCE_SET.w;
+    let data_cells = REFERENCE_SET.capacity()? / REFERENCE_SET.w;
     let parity_cells = REFERENCE_SET.cells()? - data_cells;
     Ok((blocks * parity_cells + data_cells / 2) / data_cells)
 }
@@ -108,7 +108,7 @@ fn parity(blocks: usize) -> Result<usize, Refusal> {
 /// The least time of an encode by zfec, if it is installed.
 fn zfec() -> Result<Option<Duration>, Box<dyn Error>> {
     let k = ZFEC_BLOCKS;
-    let size = REFERENCE_SET.data_len()?.div_ceil(k);
+    let size = REFERENCE_SET.capacity()?.div_ceil(k);
     let numbers = [ROUNDS, k, k + parity(k)?, size].map(|number| number.to_string());
     let output = match Command::new(PYTHON)
         .args(["-c", ZFEC])
@@ -129,7 +129,7 @@ fn zfec() -> Result<Option<Duration>, Box<dyn Error>> {
 
 /// The least time of a run of par2, if it is installed.
 fn par2() -> Result<Option<Duration>, Box<dyn Error>> {
-    let data = Random::new(11).bytes(REFERENCE_SET.data_len()?);
+    let data = Random::new(11).bytes(REFERENCE_SET.capacity()?);
     let mut least = Duration::MAX;
     for _ in 0..ROUNDS {
         let Some(time) = par2_once(&data)? else {
@@ -165,9 +165,9 @@ fn par2_once(data: &[u8]) -> Result<Option<Duration>, Box<dyn Error>> {
 impl Table {
     /// Measures memcpy and our encode.
     fn new() -> Result<Table, Refusal> {
-        let bytes = REFERENCE_SET.cube_len()?;
+        let bytes = REFERENCE_SET.cube_bytes()?;
         let mut state = Ours {
-            data: Random::new(11).bytes(REFERENCE_SET.data_len()?),
+            data: Random::new(11).bytes(REFERENCE_SET.capacity()?),
             cube: vec![1; bytes],
             copy: vec![2; bytes],
         };

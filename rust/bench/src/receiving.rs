@@ -2,7 +2,7 @@
 
 use std::hint::black_box;
 
-use jibrufath::{Outcome, Refusal, receive_pack, write};
+use jibrufath::{AirPack, Error, Packet, Received, Refusal, packets, receive_pack, write};
 use reference::random::Random;
 
 use crate::{REFERENCE_SET, Ratio, least_times};
@@ -31,7 +31,7 @@ struct Receiving {
 }
 
 /// All packs are received in the same rounds, so that a slow second of the machine falls on every row alike.
-pub fn table() -> Result<Vec<Ratio>, Refusal> {
+pub fn table() -> Result<Vec<Ratio>, Error> {
     println!("{HEADER}");
     let kinds = kinds()?;
     let mut state = Receiving::new(&kinds)?;
@@ -76,34 +76,33 @@ fn kinds() -> Result<[Kind; 6], Refusal> {
 }
 
 /// The pack of these of the packets of a written pack.
-fn air(written: &[u8], packets: &[usize]) -> Vec<u8> {
-    let (head, rest) = written.split_at(17);
-    let mut air = head.to_vec();
-    air[13..].copy_from_slice(&(packets.len() as u32).to_le_bytes());
-    let size = 3 + REFERENCE_SET.w;
-    for packet in packets {
-        air.extend(&rest[packet * size..(packet + 1) * size]);
+fn air(written: &[Packet], packets: &[usize]) -> Result<Vec<u8>, Error> {
+    let mut air = AirPack::new(REFERENCE_SET)?;
+    for &packet in packets {
+        air.push(written[packet])?;
     }
-    air
+    Ok(air.into_bytes())
 }
 
 impl Receiving {
     /// The packs of a written file, each received once to see that the file comes back exactly where it should.
-    fn new(kinds: &[Kind]) -> Result<Receiving, Refusal> {
+    fn new(kinds: &[Kind]) -> Result<Receiving, Error> {
         let shape = REFERENCE_SET;
-        let file = Random::new(8).bytes(shape.file_len()?);
+        let file = Random::new(8).bytes(shape.file_bytes()?);
         let written = write(shape, &file)?;
+        let packets: Vec<Packet> = packets(&written)?.collect();
+        let airs = kinds.iter().map(|kind| air(&packets, &kind.packets));
         let mut state = Receiving {
-            airs: kinds.iter().map(|k| air(&written, &k.packets)).collect(),
-            cube: vec![1; shape.cube_len()?],
+            airs: airs.collect::<Result<_, _>>()?,
+            cube: vec![1; shape.cube_bytes()?],
             flags: vec![1; shape.cells()?],
             file: vec![1; file.len()],
-            copy: vec![1; shape.cube_len()?],
+            copy: vec![1; shape.cube_bytes()?],
         };
         for (pack, kind) in kinds.iter().enumerate() {
             state.file.fill(1);
-            let outcome = state.receive(pack)?;
-            assert_eq!(kind.whole, matches!(outcome, Outcome::File { .. }));
+            let received = state.receive(pack)?;
+            assert_eq!(kind.whole, matches!(received, Received::File { .. }));
             assert_eq!(kind.whole, state.file == file, "{}", kind.what);
         }
         Ok(state)
@@ -113,9 +112,8 @@ impl Receiving {
         black_box(&mut self.copy).copy_from_slice(&self.cube);
     }
 
-    fn receive(&mut self, pack: usize) -> Result<Outcome, Refusal> {
+    fn receive(&mut self, pack: usize) -> Result<Received, Refusal> {
         let air = &self.airs[pack];
-        let received = receive_pack(air, &mut self.cube, &mut self.flags, &mut self.file)?;
-        Ok(received.outcome)
+        receive_pack(air, &mut self.cube, &mut self.flags, &mut self.file)
     }
 }

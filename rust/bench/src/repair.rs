@@ -81,8 +81,8 @@ impl Repair {
     pub fn new(flags: Vec<u8>) -> Result<Repair, Refusal> {
         let shape = REFERENCE_SET;
         let mut random = Random::new(7);
-        let data = random.bytes(shape.data_len()?);
-        let mut right = vec![1; shape.cube_len()?];
+        let data = random.bytes(shape.capacity()?);
+        let mut right = vec![1; shape.cube_bytes()?];
         encode(shape, &data, &mut right)?;
         let mut damaged = right.clone();
         for (packet, &flag) in damaged.chunks_mut(shape.w).zip(&flags) {

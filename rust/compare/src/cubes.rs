@@ -8,7 +8,7 @@ use crate::twin;
 /// A code cube of random data.
 pub fn random_code_cube(random: &mut Random, shape: Shape) -> Vec<u8> {
     let data = random.bytes(twin(shape).capacity());
-    let mut cube = vec![0; twin(shape).cube_len()];
+    let mut cube = vec![0; twin(shape).cube_bytes()];
     reference::encode(twin(shape), &data, &mut cube).expect("the shape is good");
     cube
 }

@@ -1,5 +1,6 @@
-//! `compare SEED COUNT`: gives COUNT random packs of every kind to the writer and to the receiver of the library and of the
-//! independent program, and prints how many there were of each kind, what the answers were, and where the programs differ.
+//! `compare SEED COUNT`: asks the library and the independent program what COUNT random packs of every kind need, gives each to
+//! the writer and to the receiver of both, and prints how many there were of each kind, what the answers were, and where the
+//! programs differ.
 
 use std::collections::BTreeMap;
 use std::env;

@@ -40,7 +40,7 @@ const HEAD: usize = 17;
 
 /// Where a packet of an air pack begins.
 fn start_of(shape: Shape, index: usize) -> usize {
-    HEAD + index * shape.packet_len()
+    HEAD + index * shape.packet_bytes()
 }
 
 /// A shape whose data string has room for the file's length.
@@ -55,7 +55,7 @@ fn roomy_shape(random: &mut Random) -> Shape {
 
 /// A file that the shape has room for; now and then the shortest, the longest, or one that ends in 00h.
 fn random_file(random: &mut Random, shape: Shape) -> Vec<u8> {
-    let room = shape.file_room();
+    let room = shape.file_bytes();
     let len = match random.among(0..=9) {
         0 => 0,
         1 => room,
@@ -77,7 +77,7 @@ pub struct Source {
 impl Source {
     /// The code cube with this data string.
     pub fn new(shape: Shape, data: &[u8]) -> Source {
-        let mut cube = vec![0; shape.cube_len()];
+        let mut cube = vec![0; shape.cube_bytes()];
         reference::encode(shape, data, &mut cube).expect("the shape is good");
         Source { shape, cube }
     }
@@ -214,7 +214,7 @@ fn cell_outside(random: &mut Random) -> Vec<u8> {
     let source = Source::random(random);
     let shape = source.shape;
     let mut air = source.without(random, |_| false);
-    let packets = (air.len() - HEAD) / shape.packet_len();
+    let packets = (air.len() - HEAD) / shape.packet_bytes();
     for _ in 0..random.among(1..=2) {
         let start = start_of(shape, random.among(0..=packets - 1));
         let axis = random.among(0..=2);
@@ -225,7 +225,7 @@ fn cell_outside(random: &mut Random) -> Vec<u8> {
 
 fn no_file(random: &mut Random) -> Vec<u8> {
     let shape = roomy_shape(random);
-    let room = shape.file_room() as u32;
+    let room = shape.file_bytes() as u32;
     let mut data = data_string(shape, &random_file(random, shape));
     let last = data.len() - 1;
     match random.among(0..=3) {
@@ -274,7 +274,7 @@ fn other_count(random: &mut Random) -> Vec<u8> {
     let places = [0, 9, 13 + count_at(9) as usize];
     let at = random.pick(&places);
     let count = count_at(at);
-    let room = read_shape(&pack).expect("the shape is good").file_room() as u32;
+    let room = read_shape(&pack).expect("the shape is good").file_bytes() as u32;
     let others = [
         0,
         1,

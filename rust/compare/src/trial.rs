@@ -1,9 +1,9 @@
 //! One pack for the writer and the receiver of both programs.
 
-use jibrufath::{Outcome, receive_pack, write_pack};
-use reference::Shape;
+use jibrufath::{Needs, Received, needs, receive_pack, write_pack};
 use reference::pack::read_shape;
 use reference::random::Random;
+use reference::{Outcome, Shape};
 
 use crate::{KINDS, compare, numbered};
 
@@ -37,10 +37,10 @@ impl Lens {
     /// The exact lengths for a shape.
     pub fn exact(shape: Shape) -> Lens {
         Lens {
-            cube: shape.cube_len(),
+            cube: shape.cube_bytes(),
             flags: shape.cells(),
-            file: shape.file_room(),
-            output: shape.pack_len(),
+            file: shape.file_bytes(),
+            output: shape.pack_bytes(),
         }
     }
 
@@ -60,7 +60,7 @@ impl Trial {
     /// a one.
     pub fn new(pack: Vec<u8>) -> Trial {
         let shape = read_shape(&pack).ok();
-        let shape = shape.filter(|shape| shape.cube_len() <= MOST_BYTES);
+        let shape = shape.filter(|shape| shape.cube_bytes() <= MOST_BYTES);
         let lens = Lens::exact(shape.unwrap_or(Shape::new(3, 3, 3, 5)));
         Trial { pack, lens }
     }
@@ -77,58 +77,86 @@ impl Trial {
         trial
     }
 
-    /// Gives the pack to the writer and to the receiver of both programs, over garbage, and compares the answers and every
-    /// lent byte.
+    /// Asks both programs what the pack needs, gives it to the writer and to the receiver of both, over garbage, and compares the
+    /// answers and every lent byte.
     pub fn compare(&self, random: &mut Random) -> Result<Answers, String> {
-        let Lens {
-            cube,
-            flags,
-            file,
-            output,
-        } = self.lens;
-        let garbage = [cube, flags, file, output].map(|len| random.bytes(len));
+        compare(
+            random,
+            [&self.pack],
+            |[pack]| numbered(needs(pack)).map(told_needs),
+            |[pack]| reference::needs(pack),
+        )
+        .map_err(|difference| format!("needs: {difference}"))?;
+        let lens = self.lens;
+        let garbage = [lens.cube, lens.flags, lens.file, lens.output].map(|len| random.bytes(len));
         let [cube, flags, file, output] = garbage.each_ref().map(Vec::as_slice);
         let write = compare(
             random,
             [&self.pack, cube, output],
             |[job, cube, output]| numbered(write_pack(job, cube, output)),
             |[job, cube, output]| reference::write_pack(job, cube, output),
-        );
+        )
+        .map_err(|difference| format!("writer: {difference}"))?;
         let receive = compare(
             random,
             [&self.pack, cube, flags, file],
             |[air, cube, flags, file]| told(receive_pack(air, cube, flags, file)),
             |[air, cube, flags, file]| reference::receive_pack(air, cube, flags, file),
-        );
+        )
+        .map_err(|difference| format!("receiver: {difference}"))?;
         Ok(Answers {
-            write: write
-                .map_err(|difference| format!("writer: {difference}"))?
-                .answer,
-            receive: receive
-                .map_err(|difference| format!("receiver: {difference}"))?
-                .answer,
+            write: write.answer,
+            receive: receive.answer,
         })
     }
 }
 
-/// The library's answer as the independent program gives it.
+/// The receiver's answer as the independent program gives it.
 fn told(
-    result: Result<jibrufath::Received, jibrufath::Refusal>,
+    result: Result<Received, jibrufath::Refusal>,
 ) -> Result<reference::Received, reference::Refusal> {
-    let jibrufath::Received {
-        outcome,
-        packets,
-        repeats,
-    } = result.map_err(|refusal| reference::Refusal {
+    let received = result.map_err(|refusal| reference::Refusal {
         number: refusal.number(),
         packet: refusal.packet(),
     })?;
+    let (outcome, packets, repeats) = match received {
+        Received::File {
+            len,
+            packets,
+            repeats,
+            ..
+        } => (Outcome::File { len }, packets, repeats),
+        Received::Left {
+            cells,
+            packets,
+            repeats,
+            ..
+        } => (Outcome::Left { cells }, packets, repeats),
+    };
     Ok(reference::Received {
-        outcome: match outcome {
-            Outcome::File { len } => reference::Outcome::File { len },
-            Outcome::Left { cells } => reference::Outcome::Left { cells },
-        },
+        outcome,
         packets,
         repeats,
     })
+}
+
+/// What the library says that a pack needs, in the places of the exported call.
+fn told_needs(needs: Needs) -> [u64; 16] {
+    let shape = needs.shape;
+    let mut places = [0; 16];
+    let told = [
+        shape.l1,
+        shape.l2,
+        shape.l3,
+        shape.w,
+        needs.cells,
+        needs.cube_bytes,
+        needs.capacity,
+        needs.file_bytes,
+        needs.pack_bytes,
+    ];
+    for (place, told) in places.iter_mut().zip(told) {
+        *place = told as u64;
+    }
+    places
 }

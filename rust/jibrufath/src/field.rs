@@ -1,10 +1,6 @@
 //! The field of bytes in which the lines are summed: binary polynomials modulo 1C3h.
 
-unsafe extern "C" {
-    safe fn jibrufath_mul(a: u8, b: u8) -> u8;
-    safe fn jibrufath_inverse(a: u8) -> u8;
-    safe fn jibrufath_pow(i: u8) -> u8;
-}
+use crate::ffi::{jibrufath_inverse, jibrufath_mul, jibrufath_pow};
 
 /// The product of two bytes.
 ///

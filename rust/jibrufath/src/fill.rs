@@ -1,32 +1,20 @@
 //! Lost cells out of the known ones.
 
+use crate::ffi::jibrufath_fill;
 use crate::refusal::answer;
 use crate::{Refusal, Shape};
 
-unsafe extern "C" {
-    fn jibrufath_fill(
-        cube: *mut u8,
-        cube_len: usize,
-        flags: *mut u8,
-        flags_len: usize,
-        l1: usize,
-        l2: usize,
-        l3: usize,
-        w: usize,
-    ) -> u64;
-}
-
 /// Gives every missing cell the bytes that the lines force, and answers the number of cells left.
 ///
-/// `cube` has [`Shape::cube_len`] bytes. `flags` has a byte for each cell: 0 known, 1 missing. The bytes of missing cells are
+/// `cube` has [`Shape::cube_bytes`] bytes. `flags` has a byte for each cell: 0 known, 1 missing. The bytes of missing cells are
 /// not read. The cells left are the largest stopping set: a set of missing cells that meets every line in none or in at
 /// least three. They become 00h and keep flag 1; all other flags become 0. With no cell missing, the call checks the cube.
 ///
 /// # Errors
 ///
-/// In this order: [`Refusal::Length`], [`Refusal::Width`], [`Refusal::Size`], [`Refusal::Memory`], [`Refusal::Flag`], which
-/// change no byte; and [`Refusal::NoFilling`] where the known cells contradict each other: missing cells are then 00h, and the
-/// flags as before.
+/// In this order: [`Refusal::Dimension`], [`Refusal::PacketSize`], [`Refusal::CubeSize`], [`Refusal::SliceLength`],
+/// [`Refusal::FlagValue`], which change no byte; and [`Refusal::Contradiction`] where the known cells contradict each other:
+/// missing cells are then 00h, and the flags as before.
 ///
 /// ```
 /// use jibrufath::{Refusal, Shape, encode, fill};
@@ -45,18 +33,18 @@ unsafe extern "C" {
 ///
 /// // A wrong byte among known cells is seen.
 /// received[26] = 0x00;
-/// assert_eq!(fill(shape, &mut received, &mut flags), Err(Refusal::NoFilling));
+/// assert_eq!(fill(shape, &mut received, &mut flags), Err(Refusal::Contradiction));
 /// # Ok::<(), Refusal>(())
 /// ```
 pub fn fill(shape: Shape, cube: &mut [u8], flags: &mut [u8]) -> Result<usize, Refusal> {
-    let Shape { l1, l2, l3, w } = shape;
+    let [l1, l2, l3, w] = shape.numbers();
     // SAFETY: both slices are borrowed for the call, which is proved to stay inside them for any numbers.
     let word = unsafe {
         jibrufath_fill(
             cube.as_mut_ptr(),
-            cube.len(),
+            cube.len() as u64,
             flags.as_mut_ptr(),
-            flags.len(),
+            flags.len() as u64,
             l1,
             l2,
             l3,

@@ -8,36 +8,51 @@
 //! that are left:
 //!
 //! ```
-//! use jibrufath::{Shape, receive, write};
+//! use jibrufath::{AirPack, Shape, packets, receive, write};
 //!
 //! let shape = Shape::new(5, 4, 3, 16);
-//! let mut pack = write(shape, b"a broadcast")?;
+//! let pack = write(shape, b"a broadcast")?;
 //!
-//! // The last 20 of the 60 packets, of 3 + 16 bytes each, are lost.
-//! pack[13] = 40;
-//! pack.truncate(17 + 40 * 19);
-//! let reception = receive(&pack)?;
-//! assert_eq!(reception.file.as_deref(), Some(&b"a broadcast"[..]));
-//! # Ok::<(), jibrufath::Refusal>(())
+//! // The last 20 of the 60 packets are lost.
+//! let mut air = AirPack::new(shape)?;
+//! for packet in packets(&pack)?.take(40) {
+//!     air.push(packet)?;
+//! }
+//! let reception = receive(air.as_bytes())?;
+//! assert_eq!(reception.into_file().as_deref(), Some(&b"a broadcast"[..]));
+//! # Ok::<(), jibrufath::Error>(())
 //! ```
 //!
-//! These two allocate. All other calls allocate nothing: the caller lends all memory, with the lengths that [`Shape`] gives.
+//! [`write()`], [`receive`], [`AirPack`] and [`job_pack`] allocate, and say by their [`Error`] where the system has no memory. All
+//! other calls allocate nothing: the caller lends all memory, with the lengths that [`Shape`] or [`needs()`] gives.
 
 #![warn(missing_docs)]
 
 mod encode;
+mod error;
+mod ffi;
 pub mod field;
 mod fill;
 mod mend;
+mod needs;
+mod pack;
 mod receive;
 mod refusal;
 mod shape;
 mod write;
 
-pub use encode::{encode, read_data};
+pub use encode::{encode, extract, is_code_cube};
+pub use error::Error;
 pub use fill::fill;
-pub use mend::{mend, mend_pass};
-pub use receive::{Outcome, Received, Reception, receive, receive_pack};
+pub use mend::{mend, mend_axis};
+pub use needs::{Needs, needs};
+pub use pack::{AirPack, Packet, Packets, job_pack, packets};
+pub use receive::{Received, Reception, default_limit, receive, receive_pack, receive_within};
 pub use refusal::Refusal;
 pub use shape::Shape;
 pub use write::{write, write_pack};
+
+/// The example in README.md, for the tests alone.
+#[cfg(doctest)]
+#[doc = include_str!("../../../README.md")]
+struct Readme;

@@ -1,107 +1,90 @@
 //! A file out of the packets that were heard.
 
+use crate::error::zeros;
+use crate::ffi::jibrufath_receive_pack;
 use crate::refusal::answer;
-use crate::{Refusal, Shape};
+use crate::{Error, Needs, Refusal, needs};
 
-/// The counts that come with the library's answer: the file's length, the packets, the repeats, then zeros.
+/// The counts that come with the library's answer: the file's length, the packets, the repeats, then places that are kept.
 type Counts = [u64; 16];
 
-unsafe extern "C" {
-    fn jibrufath_receive(
-        air: *const u8,
-        air_len: usize,
-        cube: *mut u8,
-        cube_len: usize,
-        flags: *mut u8,
-        flags_len: usize,
-        file: *mut u8,
-        file_len: usize,
-        counts: *mut Counts,
-    ) -> u64;
-}
-
-/// What came of a pack that [`receive_pack`] did not refuse.
+/// What came of a pack that [`receive_pack`] did not refuse: a file, or cells left.
 ///
 /// ```
-/// use jibrufath::{Outcome, Received, receive_pack};
+/// use jibrufath::{AirPack, Packet, Received, Shape, receive_pack};
 ///
-/// // A pack for 3 by 3 by 3 cells of 5 bytes, without a packet.
-/// let air = [5, 0, 0, 0, 3, 3, 3, 5, 0, 0, 0, 0, 0, 0, 0, 0, 0];
-/// let received = receive_pack(&air, &mut [0; 135], &mut [0; 27], &mut [0; 1])?;
-/// assert_eq!(received, Received { outcome: Outcome::Left { cells: 27 }, packets: 0, repeats: 0 });
-/// # Ok::<(), jibrufath::Refusal>(())
+/// // 27 cells of 5 bytes. Without a packet all are left.
+/// let mut air = AirPack::new(Shape::new(3, 3, 3, 5))?;
+/// let received = receive_pack(air.as_bytes(), &mut [0; 135], &mut [0; 27], &mut [0; 1])?;
+/// assert!(matches!(received, Received::Left { cells: 27, packets: 0, repeats: 0, .. }));
+///
+/// // One packet, all 00h, is enough. The file is empty.
+/// air.push(Packet { coordinates: [0, 0, 0], bytes: &[0; 5] })?;
+/// let received = receive_pack(air.as_bytes(), &mut [0; 135], &mut [0; 27], &mut [0; 1])?;
+/// assert!(matches!(received, Received::File { len: 0, packets: 1, repeats: 0, .. }));
+/// # Ok::<(), jibrufath::Error>(())
 /// ```
 #[derive(Clone, Copy, Debug, PartialEq, Eq, Hash)]
-pub struct Received {
-    /// A file, or cells left.
-    pub outcome: Outcome,
-    /// The packets of the pack.
-    pub packets: u64,
-    /// The packets whose cell had come before.
-    pub repeats: u64,
-}
-
-/// How a pack ends that is not refused.
-///
-/// ```
-/// use jibrufath::{Outcome, receive_pack};
-///
-/// // 27 cells of 5 bytes, and one packet: (0,0,0), all 00h. It is enough, and the file is empty.
-/// let air = [5, 0, 0, 0, 3, 3, 3, 5, 0, 0, 0, 0, 0, 1, 0, 0, 0, 0, 0, 0, 0, 0, 0, 0, 0];
-/// let received = receive_pack(&air, &mut [0; 135], &mut [0; 27], &mut [0; 1])?;
-/// assert_eq!(received.outcome, Outcome::File { len: 0 });
-/// # Ok::<(), jibrufath::Refusal>(())
-/// ```
-#[derive(Clone, Copy, Debug, PartialEq, Eq, Hash)]
-pub enum Outcome {
+pub enum Received {
     /// Nothing is left, and the file stands in the first bytes of the file buffer.
+    #[non_exhaustive]
     File {
         /// The file's length.
         len: usize,
+        /// The packets of the pack.
+        packets: u64,
+        /// The packets whose cell had come before.
+        repeats: u64,
     },
     /// Cells are left, and the file buffer has not changed.
+    #[non_exhaustive]
     Left {
         /// The number of cells left.
         cells: usize,
+        /// The packets of the pack.
+        packets: u64,
+        /// The packets whose cell had come before.
+        repeats: u64,
     },
 }
 
-/// Places the packets of a pack, fills what the lines force, and gives the file where nothing is left.
+/// Places the packets of an air pack, fills what the lines force, and gives the file where nothing is left.
 ///
-/// The lent slices have the lengths that the shape in the pack asks for: `cube` [`Shape::cube_len`], `flags` [`Shape::cells`],
-/// `file` [`Shape::file_len`]. What they hold before does not matter. Packets come in any order, each any number of times.
+/// The lent slices have the lengths that [`needs`] gives for the pack: `cube` [`Needs::cube_bytes`], `flags` [`Needs::cells`],
+/// `file` [`Needs::file_bytes`]. What they hold before does not matter. Packets come in any order, each any number of times.
 /// Afterwards the cube and the flags stand as [`fill`](crate::fill) leaves them. A file changes only the bytes of `file` that it
 /// needs, and cells left change none.
 ///
 /// # Errors
 ///
-/// In the order in which the pack is read: [`Refusal::Truncated`], [`Refusal::HeaderCount`], those of [`Shape::check`],
-/// [`Refusal::Capacity`], [`Refusal::SectionCount`], [`Refusal::TrailingBytes`]; then [`Refusal::Memory`] and
-/// [`Refusal::CellIndex`]. All these change no byte. Then:
+/// In the order in which the pack is read: [`Refusal::Truncated`], [`Refusal::HeaderCount`], those of
+/// [`Shape::check`](crate::Shape::check), [`Refusal::Capacity`], [`Refusal::SectionCount`], [`Refusal::TrailingBytes`]; then
+/// [`Refusal::SliceLength`] and [`Refusal::CellIndex`]. All these change no byte. Then:
 ///
 /// - [`Refusal::Conflict`], with the cube all 00h and the flags all 1;
-/// - [`Refusal::NoFilling`], with the packets placed, missing cells 00h and their flags 1;
+/// - [`Refusal::Contradiction`], with the packets placed, missing cells 00h and their flags 1;
 /// - [`Refusal::FileLength`], with the cube and the flags as filled.
 ///
 /// No refusal changes a byte of `file`.
 ///
 /// ```
-/// use jibrufath::{Outcome, Refusal, Shape, receive_pack, write};
+/// use jibrufath::{Received, Refusal, Shape, needs, receive_pack, write};
 ///
-/// let shape = Shape::new(3, 3, 3, 5);
-/// let mut pack = write(shape, &[0x08])?;
-/// let mut cube = vec![0; shape.cube_len()?];
-/// let mut flags = vec![0; shape.cells()?];
-/// let mut file = vec![0; shape.file_len()?];
+/// let mut pack = write(Shape::new(3, 3, 3, 5), &[0x08])?;
+/// let needs = needs(&pack)?;
+/// let mut cube = vec![0; needs.cube_bytes];
+/// let mut flags = vec![0; needs.cells];
+/// let mut file = vec![0; needs.file_bytes];
 /// let received = receive_pack(&pack, &mut cube, &mut flags, &mut file)?;
-/// assert_eq!(received.outcome, Outcome::File { len: 1 });
+/// assert!(matches!(received, Received::File { len: 1, packets: 27, repeats: 0, .. }));
 /// assert_eq!(file, [0x08]);
 ///
-/// // The second packet names cell (3,0,0), which is outside.
-/// pack[17 + 8] = 3;
+/// // The last packet, of 8 bytes, is made to name cell (3,2,2), which is outside.
+/// let last = pack.len() - 8;
+/// pack[last] = 3;
 /// let refused = receive_pack(&pack, &mut cube, &mut flags, &mut file);
-/// assert_eq!(refused, Err(Refusal::CellIndex { packet: 1 }));
-/// # Ok::<(), Refusal>(())
+/// assert_eq!(refused, Err(Refusal::CellIndex { packet: 26 }));
+/// # Ok::<(), jibrufath::Error>(())
 /// ```
 pub fn receive_pack(
     air: &[u8],
@@ -112,14 +95,17 @@ pub fn receive_pack(
     let mut counts = [0; 16];
     let left = answer(call(air, cube, flags, file, &mut counts))?;
     let [len, packets, repeats, ..] = counts;
-    let outcome = match left {
-        0 => Outcome::File { len: len as usize },
-        cells => Outcome::Left { cells },
-    };
-    Ok(Received {
-        outcome,
-        packets,
-        repeats,
+    Ok(match left {
+        0 => Received::File {
+            len: len as usize,
+            packets,
+            repeats,
+        },
+        cells => Received::Left {
+            cells,
+            packets,
+            repeats,
+        },
     })
 }
 
@@ -132,134 +118,238 @@ fn call(
 ) -> u64 {
     // SAFETY: the slices and the counts are borrowed for the call, which is proved to stay inside them for any bytes.
     unsafe {
-        jibrufath_receive(
+        jibrufath_receive_pack(
             air.as_ptr(),
-            air.len(),
+            air.len() as u64,
             cube.as_mut_ptr(),
-            cube.len(),
+            cube.len() as u64,
             flags.as_mut_ptr(),
-            flags.len(),
+            flags.len() as u64,
             file.as_mut_ptr(),
-            file.len(),
+            file.len() as u64,
             counts,
         )
+    }
+}
+
+/// What an air pack needs that the receiver does not refuse as it reads it. Such a pack, lent no memory, is refused for the
+/// memory alone.
+pub(crate) fn read_air(air: &[u8]) -> Result<Needs, Refusal> {
+    match receive_pack(air, &mut [], &mut [], &mut []) {
+        Err(Refusal::SliceLength) => needs(air),
+        Err(refusal) => Err(refusal),
+        Ok(_) => unreachable!("no cube is empty"),
     }
 }
 
 /// What [`receive`] gives: the file, or which cells are left.
 ///
 /// ```
-/// use jibrufath::{Shape, receive, write};
+/// use jibrufath::{AirPack, Reception, Shape, receive, write};
 ///
 /// let shape = Shape::new(3, 3, 3, 5);
-/// let reception = receive(&write(shape, &[0x08])?)?;
-/// assert_eq!(reception.shape, shape);
-/// assert_eq!(reception.file, Some(vec![0x08]));
-/// assert!(reception.left.is_empty());
-/// assert_eq!((reception.packets, reception.repeats), (27, 0));
-/// # Ok::<(), jibrufath::Refusal>(())
+/// match receive(&write(shape, &[0x08])?)? {
+///     Reception::File { file, packets, repeats, .. } => {
+///         assert_eq!(file, [0x08]);
+///         assert_eq!((packets, repeats), (27, 0));
+///     }
+///     Reception::Left { cells, .. } => panic!("{cells} cells are left"),
+/// }
+/// # Ok::<(), jibrufath::Error>(())
 /// ```
 #[derive(Clone, Debug, PartialEq, Eq)]
-pub struct Reception {
-    /// The shape that the pack names.
-    pub shape: Shape,
-    /// The file, where no cell is left.
-    pub file: Option<Vec<u8>>,
-    /// The numbers of the cells left, in order.
-    pub left: Vec<usize>,
-    /// The packets of the pack.
-    pub packets: u64,
-    /// The packets whose cell had come before.
-    pub repeats: u64,
+pub enum Reception {
+    /// Nothing is left.
+    #[non_exhaustive]
+    File {
+        /// The file.
+        file: Vec<u8>,
+        /// The packets of the pack.
+        packets: u64,
+        /// The packets whose cell had come before.
+        repeats: u64,
+    },
+    /// Cells are left.
+    #[non_exhaustive]
+    Left {
+        /// The number of cells left.
+        cells: usize,
+        /// A byte for each cell, 1 where it is left, else 0.
+        flags: Vec<u8>,
+        /// The packets of the pack.
+        packets: u64,
+        /// The packets whose cell had come before.
+        repeats: u64,
+    },
 }
 
-/// Receives a pack: [`receive_pack`] with memory of its own.
+impl Reception {
+    /// The file; none where cells are left.
+    ///
+    /// ```
+    /// use jibrufath::{AirPack, Shape, receive, write};
+    ///
+    /// let shape = Shape::new(3, 3, 3, 5);
+    /// assert_eq!(receive(&write(shape, &[0x08])?)?.into_file(), Some(vec![0x08]));
+    /// assert_eq!(receive(AirPack::new(shape)?.as_bytes())?.into_file(), None);
+    /// # Ok::<(), jibrufath::Error>(())
+    /// ```
+    pub fn into_file(self) -> Option<Vec<u8>> {
+        match self {
+            Reception::File { file, .. } => Some(file),
+            Reception::Left { .. } => None,
+        }
+    }
+
+    /// The numbers of the cells left, in order; none with a file.
+    ///
+    /// ```
+    /// use jibrufath::{AirPack, Shape, receive, write};
+    ///
+    /// let shape = Shape::new(3, 3, 3, 5);
+    /// assert_eq!(receive(&write(shape, &[0x08])?)?.left().count(), 0);
+    /// let nothing = receive(AirPack::new(shape)?.as_bytes())?;
+    /// assert!(nothing.left().eq(0..27));
+    /// # Ok::<(), jibrufath::Error>(())
+    /// ```
+    pub fn left(&self) -> impl Iterator<Item = usize> {
+        let flags: &[u8] = match self {
+            Reception::File { .. } => &[],
+            Reception::Left { flags, .. } => flags,
+        };
+        (0..flags.len()).filter(|&cell| flags[cell] == 1)
+    }
+}
+
+/// The memory that [`receive`] takes for a pack at most: 28 times the pack's bytes, and 1 MiB for a pack however short.
+///
+/// A pack that gives a file has at least as many packets as its cube has data cells, since fewer known cells never determine
+/// them. Of any cube a 27th or more are data cells. So cube, flags and file take less than 28 times the bytes of such a pack: what
+/// the limit keeps out are packs that would end in cells left or in a refusal.
+///
+/// ```
+/// use jibrufath::default_limit;
+///
+/// assert_eq!(default_limit(&[0; 17]), 1_048_576);
+/// assert_eq!(default_limit(&[0; 100_000]), 2_800_000);
+/// ```
+pub fn default_limit(air: &[u8]) -> usize {
+    const TIMES: usize = 28;
+    const LEAST: usize = 1 << 20;
+    air.len().saturating_mul(TIMES).max(LEAST)
+}
+
+/// Receives an air pack: [`receive_pack`] with memory of its own, at most [`default_limit`].
 ///
 /// # Errors
 ///
-/// As [`receive_pack`], but never [`Refusal::Memory`].
+/// As [`receive_within`].
 ///
 /// ```
-/// use jibrufath::{Refusal, Shape, receive, write};
+/// use jibrufath::{AirPack, Error, Refusal, Shape, packets, receive, write};
 ///
 /// let shape = Shape::new(3, 3, 3, 8);
 /// let pack = write(shape, b"file")?;
 ///
-/// // A pack with the last packet alone, which is enough, and one with none.
-/// let mut head = pack[..17].to_vec();
-/// head[13] = 1;
-/// let last = &pack[pack.len() - 11..];
-/// assert_eq!(receive(&[&head, last].concat())?.file.as_deref(), Some(&b"file"[..]));
+/// // The last packet alone is enough.
+/// let mut air = AirPack::new(shape)?;
+/// for packet in packets(&pack)?.skip(26) {
+///     air.push(packet)?;
+/// }
+/// assert_eq!(receive(air.as_bytes())?.into_file().as_deref(), Some(&b"file"[..]));
 ///
-/// head[13] = 0;
-/// let nothing = receive(&head)?;
-/// assert_eq!(nothing.file, None);
-/// assert_eq!(nothing.left.len(), 27);
-///
-/// assert_eq!(receive(&head[..16]), Err(Refusal::Truncated));
-/// # Ok::<(), Refusal>(())
+/// assert_eq!(receive(&pack[..16]), Err(Error::Refused(Refusal::Truncated)));
+/// # Ok::<(), Error>(())
 /// ```
-pub fn receive(air: &[u8]) -> Result<Reception, Refusal> {
-    let shape = shape_of(air)?;
-    let mut cube = vec![0; shape.cube_len()?];
-    let mut flags = vec![0; shape.cells()?];
-    let mut file = vec![0; shape.file_len()?];
-    let received = receive_pack(air, &mut cube, &mut flags, &mut file)?;
-    let file = match received.outcome {
-        Outcome::Left { .. } => None,
-        Outcome::File { len } => {
-            file.truncate(len);
-            Some(file)
-        }
-    };
-    Ok(Reception {
-        shape,
-        file,
-        left: (0..flags.len()).filter(|&cell| flags[cell] == 1).collect(),
-        packets: received.packets,
-        repeats: received.repeats,
-    })
+pub fn receive(air: &[u8]) -> Result<Reception, Error> {
+    receive_within(air, default_limit(air))
 }
 
-/// The shape of a pack that is well formed. Such a pack, lent no memory, is refused for the memory alone.
-fn shape_of(air: &[u8]) -> Result<Shape, Refusal> {
-    match receive_pack(air, &mut [], &mut [], &mut []) {
-        Err(Refusal::Memory) => {
-            let [l1, l2, l3] = [4, 5, 6].map(|at| usize::from(air[at]));
-            let w = u16::from_le_bytes([air[7], air[8]]);
-            Ok(Shape::new(l1, l2, l3, usize::from(w)))
-        }
-        Err(refusal) => Err(refusal),
-        Ok(_) => unreachable!("no cube is empty"),
+/// Receives an air pack: [`receive_pack`] with memory of its own, at most `limit` bytes for cube, flags and file together.
+///
+/// # Errors
+///
+/// In this order: the refusals of [`receive_pack`] as the pack is read, up to [`Refusal::TrailingBytes`]; [`Error::Limit`];
+/// [`Error::Allocation`]; the other refusals of [`receive_pack`] but [`Refusal::SliceLength`], which does not occur.
+///
+/// ```
+/// use jibrufath::{AirPack, Error, Shape, receive, receive_within};
+///
+/// // 8 MB of cells, and no packet.
+/// let air = AirPack::new(Shape::new(100, 100, 100, 8))?;
+/// assert!(matches!(receive(air.as_bytes()), Err(Error::Limit { limit: 1_048_576, .. })));
+/// assert_eq!(receive_within(air.as_bytes(), 20_000_000)?.left().count(), 1_000_000);
+/// # Ok::<(), Error>(())
+/// ```
+pub fn receive_within(air: &[u8], limit: usize) -> Result<Reception, Error> {
+    let needs = read_air(air)?;
+    let bytes = needs.receiver_bytes();
+    if bytes > limit {
+        return Err(Error::Limit { bytes, limit });
     }
+    let mut cube = zeros(needs.cube_bytes)?;
+    let mut flags = zeros(needs.cells)?;
+    let mut file = zeros(needs.file_bytes)?;
+    Ok(match receive_pack(air, &mut cube, &mut flags, &mut file)? {
+        Received::File {
+            len,
+            packets,
+            repeats,
+        } => {
+            file.truncate(len);
+            Reception::File {
+                file,
+                packets,
+                repeats,
+            }
+        }
+        Received::Left {
+            cells,
+            packets,
+            repeats,
+        } => Reception::Left {
+            cells,
+            flags,
+            packets,
+            repeats,
+        },
+    })
 }
 
 #[cfg(test)]
 mod tests {
     use super::*;
-    use crate::write;
+    use compare::{KINDS, Trial};
+    use reference::Outcome;
+    use reference::random::Random;
+
+    /// The counts of the independent program: with a refusal all are 0.
+    fn expected(trial: &Trial) -> Counts {
+        let [mut cube, mut flags, mut file] =
+            [trial.lens.cube, trial.lens.flags, trial.lens.file].map(|len| vec![0; len]);
+        let mut counts = [0; 16];
+        if let Ok(received) = reference::receive_pack(&trial.pack, &mut cube, &mut flags, &mut file)
+        {
+            counts[0] = match received.outcome {
+                Outcome::File { len } => len as u64,
+                Outcome::Left { .. } => 0,
+            };
+            counts[1] = received.packets;
+            counts[2] = received.repeats;
+        }
+        counts
+    }
 
     #[test]
     fn counts_are_written_whole() {
-        let pack = write(Shape::new(3, 3, 3, 5), &[0x08]).expect("the file fits");
-        let with_packets = |count: u8| {
-            let mut air = pack[..17 + 8 * usize::from(count)].to_vec();
-            air[13] = count;
-            air
-        };
-        let twice = [&with_packets(2)[..17], &pack[17..25], &pack[17..25]].concat();
-        let cut = &pack[..pack.len() - 1];
-        for (air, word, first) in [
-            (&pack[..], 0, [1, 27, 0]),
-            (&twice, 0, [1, 2, 1]),
-            (&with_packets(0), 27 * 256, [0, 0, 0]),
-            (cut, 6, [0, 0, 0]),
-        ] {
+        let mut random = Random::new(7003);
+        for case in 0..3_600 {
+            let trial = Trial::random(&mut random, case % KINDS.len());
+            let [mut cube, mut flags, mut file] =
+                [trial.lens.cube, trial.lens.flags, trial.lens.file].map(|len| vec![0; len]);
             let mut counts = [u64::MAX; 16];
-            let answered = call(air, &mut [0; 135], &mut [0; 27], &mut [0; 1], &mut counts);
-            assert_eq!(answered, word);
-            assert_eq!(counts[..3], first);
-            assert_eq!(counts[3..], [0; 13]);
+            call(&trial.pack, &mut cube, &mut flags, &mut file, &mut counts);
+            assert_eq!(counts, expected(&trial), "{trial:?}");
         }
     }
 }

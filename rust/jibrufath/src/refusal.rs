@@ -1,6 +1,5 @@
 //! Why a call refuses its input, and how the library's answer is read.
 
-use std::error::Error;
 use std::fmt;
 
 /// Why a call refused its input. The numbers are those of the table in document 01.
@@ -9,7 +8,7 @@ use std::fmt;
 /// use jibrufath::{Refusal, Shape};
 ///
 /// let refusal = Shape::new(2, 3, 3, 1).check().unwrap_err();
-/// assert_eq!(refusal, Refusal::Length);
+/// assert_eq!(refusal, Refusal::Dimension);
 /// assert_eq!(refusal.number(), 1);
 /// assert_eq!(refusal.to_string(), "refused 1: a length is not 3 to 255, or an axis number not 1 to 3");
 /// ```
@@ -17,15 +16,15 @@ use std::fmt;
 #[non_exhaustive]
 pub enum Refusal {
     /// 1: a length is not 3 to 255; in a call that takes one, an axis number is not 1 to 3.
-    Length,
+    Dimension,
     /// 2: W is not 1 to 1,024.
-    Width,
+    PacketSize,
     /// 3: W × cells is above 268,435,456.
-    Size,
+    CubeSize,
     /// 4: a lent slice has not the exact length.
-    Memory,
+    SliceLength,
     /// 5: a flag is neither 0 nor 1.
-    Flag,
+    FlagValue,
     /// 6: the pack ends inside a count or a section.
     Truncated,
     /// 7: the count of section 1 is not 5.
@@ -46,29 +45,29 @@ pub enum Refusal {
         /// The packet's index, from 0.
         packet: u64,
     },
-    /// 13: no filling exists: the known cells contradict each other.
-    NoFilling,
+    /// 13: the known cells contradict each other: no filling exists.
+    Contradiction,
     /// 14: the data string holds no file: its length is too large, or a byte behind it is not 00h.
     FileLength,
     /// 15: a cell is flagged missing, and mending takes only whole cubes.
-    Missing,
+    Erasure,
     /// 16: what mending leaves is not a code cube.
-    NotMended,
+    Uncorrected,
 }
 
 impl Refusal {
     /// The number in the table.
     ///
     /// ```
-    /// assert_eq!(jibrufath::Refusal::NoFilling.number(), 13);
+    /// assert_eq!(jibrufath::Refusal::Contradiction.number(), 13);
     /// ```
     pub fn number(self) -> u8 {
         match self {
-            Refusal::Length => 1,
-            Refusal::Width => 2,
-            Refusal::Size => 3,
-            Refusal::Memory => 4,
-            Refusal::Flag => 5,
+            Refusal::Dimension => 1,
+            Refusal::PacketSize => 2,
+            Refusal::CubeSize => 3,
+            Refusal::SliceLength => 4,
+            Refusal::FlagValue => 5,
             Refusal::Truncated => 6,
             Refusal::HeaderCount => 7,
             Refusal::TrailingBytes => 8,
@@ -76,10 +75,10 @@ impl Refusal {
             Refusal::Capacity => 10,
             Refusal::CellIndex { .. } => 11,
             Refusal::Conflict { .. } => 12,
-            Refusal::NoFilling => 13,
+            Refusal::Contradiction => 13,
             Refusal::FileLength => 14,
-            Refusal::Missing => 15,
-            Refusal::NotMended => 16,
+            Refusal::Erasure => 15,
+            Refusal::Uncorrected => 16,
         }
     }
 
@@ -89,7 +88,7 @@ impl Refusal {
     /// use jibrufath::Refusal;
     ///
     /// assert_eq!(Refusal::Conflict { packet: 7 }.packet(), Some(7));
-    /// assert_eq!(Refusal::NoFilling.packet(), None);
+    /// assert_eq!(Refusal::Contradiction.packet(), None);
     /// ```
     pub fn packet(self) -> Option<u64> {
         match self {
@@ -101,11 +100,11 @@ impl Refusal {
     /// The refusal with this number, of this packet where it is one of a packet.
     fn numbered(number: u64, packet: u64) -> Refusal {
         match number {
-            1 => Refusal::Length,
-            2 => Refusal::Width,
-            3 => Refusal::Size,
-            4 => Refusal::Memory,
-            5 => Refusal::Flag,
+            1 => Refusal::Dimension,
+            2 => Refusal::PacketSize,
+            3 => Refusal::CubeSize,
+            4 => Refusal::SliceLength,
+            5 => Refusal::FlagValue,
             6 => Refusal::Truncated,
             7 => Refusal::HeaderCount,
             8 => Refusal::TrailingBytes,
@@ -113,10 +112,10 @@ impl Refusal {
             10 => Refusal::Capacity,
             11 => Refusal::CellIndex { packet },
             12 => Refusal::Conflict { packet },
-            13 => Refusal::NoFilling,
+            13 => Refusal::Contradiction,
             14 => Refusal::FileLength,
-            15 => Refusal::Missing,
-            16 => Refusal::NotMended,
+            15 => Refusal::Erasure,
+            16 => Refusal::Uncorrected,
             _ => panic!("the library answers with numbers of the table"),
         }
     }
@@ -125,11 +124,11 @@ impl Refusal {
 impl fmt::Display for Refusal {
     fn fmt(&self, f: &mut fmt::Formatter<'_>) -> fmt::Result {
         let meaning = match self {
-            Refusal::Length => "a length is not 3 to 255, or an axis number not 1 to 3",
-            Refusal::Width => "W is not 1 to 1,024",
-            Refusal::Size => "W × cells is above 268,435,456",
-            Refusal::Memory => "a lent slice has not the exact length",
-            Refusal::Flag => "a flag is neither 0 nor 1",
+            Refusal::Dimension => "a length is not 3 to 255, or an axis number not 1 to 3",
+            Refusal::PacketSize => "W is not 1 to 1,024",
+            Refusal::CubeSize => "W × cells is above 268,435,456",
+            Refusal::SliceLength => "a lent slice has not the exact length",
+            Refusal::FlagValue => "a flag is neither 0 nor 1",
             Refusal::Truncated => "the pack ends inside a count or a section",
             Refusal::HeaderCount => "the count of section 1 is not 5",
             Refusal::TrailingBytes => "the pack has bytes after section 3",
@@ -137,10 +136,10 @@ impl fmt::Display for Refusal {
             Refusal::Capacity => "the data string has no room for the file",
             Refusal::CellIndex { .. } => "a packet names a cell outside the cube",
             Refusal::Conflict { .. } => "a packet's cell came before with other bytes",
-            Refusal::NoFilling => "no filling exists",
+            Refusal::Contradiction => "the known cells contradict each other",
             Refusal::FileLength => "the data string holds no file",
-            Refusal::Missing => "a cell is flagged missing",
-            Refusal::NotMended => "what mending leaves is not a code cube",
+            Refusal::Erasure => "a cell is flagged missing",
+            Refusal::Uncorrected => "what mending leaves is not a code cube",
         };
         write!(f, "refused {}: {meaning}", self.number())?;
         match self.packet() {
@@ -150,7 +149,7 @@ impl fmt::Display for Refusal {
     }
 }
 
-impl Error for Refusal {}
+impl std::error::Error for Refusal {}
 
 /// Reads an answer of the library: the refusal's number (0 for none) in the low byte; above it a count, or with the refusal of
 /// a packet its index.

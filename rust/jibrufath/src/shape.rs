@@ -1,14 +1,8 @@
 //! The shape of a cube, and the lengths of the slices that a call is lent.
 
-use crate::Refusal;
+use crate::ffi::{jibrufath_capacity, jibrufath_cells, jibrufath_cube_bytes, jibrufath_pack_bytes};
 use crate::refusal::answer;
-
-unsafe extern "C" {
-    safe fn jibrufath_cells(l1: usize, l2: usize, l3: usize, w: usize) -> u64;
-    safe fn jibrufath_cube_bytes(l1: usize, l2: usize, l3: usize, w: usize) -> u64;
-    safe fn jibrufath_capacity(l1: usize, l2: usize, l3: usize, w: usize) -> u64;
-    safe fn jibrufath_pack_bytes(l1: usize, l2: usize, l3: usize, w: usize) -> u64;
-}
+use crate::{Refusal, needs};
 
 /// The bytes of the file's length, which begins a data string.
 const LENGTH_BYTES: usize = 4;
@@ -22,8 +16,8 @@ const LENGTH_BYTES: usize = 4;
 ///
 /// let shape = Shape::new(69, 69, 25, 397);
 /// assert_eq!(shape.cells(), Ok(119_025));
-/// assert_eq!(shape.cube_len(), Ok(47_252_925));
-/// assert_eq!(Shape::new(255, 255, 255, 17).cells(), Err(Refusal::Size));
+/// assert_eq!(shape.cube_bytes(), Ok(47_252_925));
+/// assert_eq!(Shape::new(255, 255, 255, 17).cells(), Err(Refusal::CubeSize));
 /// ```
 #[derive(Clone, Copy, Debug, PartialEq, Eq, Hash)]
 pub struct Shape {
@@ -49,17 +43,36 @@ impl Shape {
         Shape { l1, l2, l3, w }
     }
 
+    /// The shape in section 1 of a pack; the rest of the pack is not read.
+    ///
+    /// # Errors
+    ///
+    /// As [`needs`].
+    ///
+    /// ```
+    /// use jibrufath::{Refusal, Shape, write};
+    ///
+    /// let shape = Shape::new(5, 4, 3, 16);
+    /// let pack = write(shape, b"any file")?;
+    /// assert_eq!(Shape::of_pack(&pack), Ok(shape));
+    /// assert_eq!(Shape::of_pack(&pack[..8]), Err(Refusal::Truncated));
+    /// # Ok::<(), jibrufath::Error>(())
+    /// ```
+    pub fn of_pack(pack: &[u8]) -> Result<Shape, Refusal> {
+        needs(pack).map(|needs| needs.shape)
+    }
+
     /// Checks the numbers.
     ///
     /// # Errors
     ///
-    /// In this order: [`Refusal::Length`], [`Refusal::Width`], [`Refusal::Size`].
+    /// In this order: [`Refusal::Dimension`], [`Refusal::PacketSize`], [`Refusal::CubeSize`].
     ///
     /// ```
     /// use jibrufath::{Refusal, Shape};
     ///
     /// assert_eq!(Shape::new(128, 128, 16, 1024).check(), Ok(()));
-    /// assert_eq!(Shape::new(3, 3, 3, 1025).check(), Err(Refusal::Width));
+    /// assert_eq!(Shape::new(3, 3, 3, 1025).check(), Err(Refusal::PacketSize));
     /// ```
     pub fn check(self) -> Result<(), Refusal> {
         self.cells().map(|_| ())
@@ -85,22 +98,22 @@ impl Shape {
     /// As [`Shape::check`].
     ///
     /// ```
-    /// assert_eq!(jibrufath::Shape::new(5, 4, 3, 16).cube_len(), Ok(960));
+    /// assert_eq!(jibrufath::Shape::new(5, 4, 3, 16).cube_bytes(), Ok(960));
     /// ```
-    pub fn cube_len(self) -> Result<usize, Refusal> {
+    pub fn cube_bytes(self) -> Result<usize, Refusal> {
         self.ask(jibrufath_cube_bytes)
     }
 
-    /// The length of a data string, the capacity: W × (L1 - 2)(L2 - 2)(L3 - 2).
+    /// The capacity, which is the length of a data string: W × (L1 - 2)(L2 - 2)(L3 - 2).
     ///
     /// # Errors
     ///
     /// As [`Shape::check`].
     ///
     /// ```
-    /// assert_eq!(jibrufath::Shape::new(5, 4, 3, 16).data_len(), Ok(96));
+    /// assert_eq!(jibrufath::Shape::new(5, 4, 3, 16).capacity(), Ok(96));
     /// ```
-    pub fn data_len(self) -> Result<usize, Refusal> {
+    pub fn capacity(self) -> Result<usize, Refusal> {
         self.ask(jibrufath_capacity)
     }
 
@@ -113,12 +126,12 @@ impl Shape {
     /// ```
     /// use jibrufath::{Refusal, Shape};
     ///
-    /// assert_eq!(Shape::new(5, 4, 3, 16).file_len(), Ok(92));
-    /// assert_eq!(Shape::new(3, 3, 3, 4).file_len(), Ok(0));
-    /// assert_eq!(Shape::new(3, 3, 3, 3).file_len(), Err(Refusal::Capacity));
+    /// assert_eq!(Shape::new(5, 4, 3, 16).file_bytes(), Ok(92));
+    /// assert_eq!(Shape::new(3, 3, 3, 4).file_bytes(), Ok(0));
+    /// assert_eq!(Shape::new(3, 3, 3, 3).file_bytes(), Err(Refusal::Capacity));
     /// ```
-    pub fn file_len(self) -> Result<usize, Refusal> {
-        self.data_len()?
+    pub fn file_bytes(self) -> Result<usize, Refusal> {
+        self.capacity()?
             .checked_sub(LENGTH_BYTES)
             .ok_or(Refusal::Capacity)
     }
@@ -130,14 +143,20 @@ impl Shape {
     /// As [`Shape::check`].
     ///
     /// ```
-    /// assert_eq!(jibrufath::Shape::new(5, 4, 3, 16).pack_len(), Ok(1157));
+    /// assert_eq!(jibrufath::Shape::new(5, 4, 3, 16).pack_bytes(), Ok(1157));
     /// ```
-    pub fn pack_len(self) -> Result<usize, Refusal> {
+    pub fn pack_bytes(self) -> Result<usize, Refusal> {
         self.ask(jibrufath_pack_bytes)
     }
 
+    /// The four numbers as the library takes them.
+    pub(crate) fn numbers(self) -> [u64; 4] {
+        [self.l1, self.l2, self.l3, self.w].map(|number| number as u64)
+    }
+
     /// A size of this shape, as the library answers it.
-    fn ask(self, size: extern "C" fn(usize, usize, usize, usize) -> u64) -> Result<usize, Refusal> {
-        answer(size(self.l1, self.l2, self.l3, self.w))
+    fn ask(self, size: extern "C" fn(u64, u64, u64, u64) -> u64) -> Result<usize, Refusal> {
+        let [l1, l2, l3, w] = self.numbers();
+        answer(size(l1, l2, l3, w))
     }
 }

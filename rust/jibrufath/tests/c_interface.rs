@@ -1,4 +1,4 @@
-//! The C side: the header declares what the library exports, and the example in C compiles, links and runs.
+//! The C side: the header and the wrapper declare what the library exports, and the programs in C compile, link and run.
 
 use std::fs;
 use std::path::{Path, PathBuf};
@@ -10,7 +10,23 @@ const PRINTED: &str = "\
 50 packets lost: \"Splice plan 17: fibre 3 to fibre 12, tray B.\"
 75 packets lost: 75 cells left
 a packet for a cell outside the cube: refused 11, packet 0
+a pack of another shape: no room for a cube of 265302000 bytes
 ";
+
+/// The stack that each call may take, in bytes, as the header says.
+const STACK: [(&str, usize); 11] = [
+    ("encode", 12_000),
+    ("extract", 1_000),
+    ("is_code_cube", 12_000),
+    ("fill", 12_000),
+    ("mend", 20_000),
+    ("mend_axis", 20_000),
+    ("write_pack", 12_000),
+    ("receive_pack", 12_000),
+    ("needs", 1_000),
+    ("sizes", 1_000),
+    ("field", 1_000),
+];
 
 fn repository() -> PathBuf {
     Path::new(env!("CARGO_MANIFEST_DIR"))
@@ -20,46 +36,118 @@ fn repository() -> PathBuf {
         .to_path_buf()
 }
 
-#[test]
-fn the_example_runs() {
+/// What a program in examples/c prints.
+fn printed(name: &str) -> String {
     let repository = repository();
-    let program = Path::new(env!("CARGO_TARGET_TMPDIR")).join("c_example");
+    let program = Path::new(env!("CARGO_TARGET_TMPDIR")).join(name);
     let compiled = Command::new("cc")
         .args(["-std=c99", "-Wall", "-Wextra", "-Werror", "-pedantic", "-I"])
         .arg(repository.join("include"))
-        .arg(repository.join("examples/c/receive.c"))
+        .arg(repository.join("examples/c").join(name).with_extension("c"))
         .arg(repository.join("target/staticlib/libjibrufath.a"))
         .arg("-o")
         .arg(&program)
         .status()
         .expect("a C compiler is installed");
-    assert!(compiled.success());
-    let output = Command::new(&program).output().expect("the example runs");
-    assert!(output.status.success());
-    assert_eq!(String::from_utf8_lossy(&output.stdout), PRINTED);
+    assert!(compiled.success(), "{name} compiles");
+    let output = Command::new(&program).output().expect("the program runs");
+    assert!(output.status.success(), "{name}: {}", output.status);
+    String::from_utf8(output.stdout).expect("text")
+}
+
+#[test]
+fn the_example_runs() {
+    assert_eq!(printed("receive"), PRINTED);
+}
+
+#[test]
+fn the_stack_is_as_the_header_says() {
+    let printed = printed("stack");
+    let taken: Vec<(&str, usize)> = printed
+        .lines()
+        .filter_map(|line| line.split_once(' '))
+        .map(|(call, bytes)| (call, bytes.parse().expect("a number")))
+        .collect();
+    assert_eq!(taken.len(), STACK.len(), "{printed}");
+    for ((call, bytes), (name, most)) in taken.into_iter().zip(STACK) {
+        assert!(call == name && bytes <= most, "{call}: {bytes} bytes");
+    }
+}
+
+/// The sources of crates/jibrufath.
+fn sources() -> Vec<String> {
+    fs::read_dir(repository().join("crates/jibrufath/src"))
+        .expect("the crate has sources")
+        .map(|entry| fs::read_to_string(entry.expect("an entry").path()).expect("a source file"))
+        .collect()
+}
+
+fn header() -> String {
+    fs::read_to_string(repository().join("include/jibrufath.h")).expect("the header")
+}
+
+/// The calls that crates/jibrufath exports, as C declares them.
+fn exported() -> Vec<String> {
+    let mut exported: Vec<String> = sources()
+        .iter()
+        .flat_map(|source| after_each(source, "pub extern \"C\" fn "))
+        .map(|signature| prototype(&signature))
+        .collect();
+    exported.sort();
+    exported
 }
 
 #[test]
 fn the_header_declares_what_is_exported() {
-    let sources = repository().join("crates/jibrufath/src");
-    let mut exported: Vec<String> = fs::read_dir(sources)
-        .expect("the crate has sources")
-        .map(|entry| fs::read_to_string(entry.expect("an entry").path()).expect("a source file"))
-        .flat_map(|source| after_each(&source, "pub extern \"C\" fn "))
-        .map(|signature| prototype(&signature))
-        .collect();
-    let header = fs::read_to_string(repository().join("include/jibrufath.h")).expect("the header");
-    let mut declared: Vec<String> = header
-        .split('\n')
-        .collect::<Vec<_>>()
-        .join(" ")
-        .split(';')
-        .filter_map(declaration)
-        .collect();
-    exported.sort();
+    let header = header().replace('\n', " ");
+    let mut declared: Vec<String> = header.split(';').filter_map(declaration).collect();
     declared.sort();
-    assert_eq!(declared, exported);
-    assert_eq!(declared.len(), 14);
+    assert_eq!(declared, exported());
+    assert_eq!(declared.len(), 16);
+}
+
+#[test]
+fn the_wrapper_declares_what_is_exported() {
+    let wrapper = include_str!("../src/ffi.rs");
+    let behind = wrapper.split(" fn ").skip(1);
+    let mut declared: Vec<String> = behind
+        .map(|text| text.split(";\n").next().unwrap_or(text))
+        .map(declaration_in_c)
+        .collect();
+    declared.sort();
+    assert_eq!(declared, exported());
+}
+
+/// The lines that stand before those with which something begins.
+fn lines_before(text: &str, begins: impl Fn(&str) -> bool) -> Vec<String> {
+    let lines: Vec<&str> = text.lines().collect();
+    let pairs = lines.windows(2).filter(|pair| begins(pair[1]));
+    pairs.map(|pair| pair[0].to_string()).collect()
+}
+
+#[test]
+fn every_call_has_its_comment() {
+    let declares = |line: &str| line.starts_with("uint64_t ") || line.starts_with("uint8_t ");
+    let in_the_header = lines_before(&header(), declares);
+    assert_eq!(in_the_header.len(), exported().len());
+    assert!(in_the_header.iter().all(|line| line.ends_with("*/")));
+    let exports = |line: &str| line == "#[no_mangle]";
+    let sources = sources();
+    let in_the_sources = sources.iter().flat_map(|s| lines_before(s, exports));
+    let in_the_sources: Vec<String> = in_the_sources.collect();
+    assert_eq!(in_the_sources.len(), exported().len());
+    assert!(in_the_sources.iter().all(|line| line.starts_with("//")));
+}
+
+#[test]
+fn the_header_has_the_version_of_the_wrapper() {
+    for (name, number) in [
+        ("MAJOR", env!("CARGO_PKG_VERSION_MAJOR")),
+        ("MINOR", env!("CARGO_PKG_VERSION_MINOR")),
+    ] {
+        let define = format!("#define JIBRUFATH_VERSION_{name} {number}");
+        assert!(header().lines().any(|line| line == define), "{define}");
+    }
 }
 
 /// The text behind each place where the words stand, up to the line of the contract.
@@ -72,17 +160,33 @@ fn after_each(source: &str, words: &str) -> Vec<String> {
 
 /// An exported signature as C declares it: a slice is a pointer and a length.
 fn prototype(signature: &str) -> String {
+    declared(signature, |name, kind| match kind {
+        "&[u8]" => format!("const uint8_t *{name}, uint64_t {name}_len"),
+        "&mut [u8]" => format!("uint8_t *{name}, uint64_t {name}_len"),
+        "&mut [u64; 16]" => format!("uint64_t {name}[16]"),
+        "usize" => format!("uint64_t {name}"),
+        _ => format!("{} {name}", number(kind)),
+    })
+}
+
+/// A signature of the wrapper as C declares it.
+fn declaration_in_c(signature: &str) -> String {
+    declared(signature, |name, kind| match kind {
+        "*const u8" => format!("const uint8_t *{name}"),
+        "*mut u8" => format!("uint8_t *{name}"),
+        "*mut [u64; 16]" => format!("uint64_t {name}[16]"),
+        _ => format!("{} {name}", number(kind)),
+    })
+}
+
+/// A signature with its parameters as C declares them.
+fn declared(signature: &str, parameter: impl Fn(&str, &str) -> String) -> String {
     let (name, rest) = signature.split_once('(').expect("a list of parameters");
     let (parameters, result) = rest.split_once(')').expect("the list's end");
-    let parameters = parameters.split(',').map(str::trim);
     let parameters: Vec<String> = parameters
-        .filter_map(|parameter| parameter.split_once(": "))
-        .map(|(name, kind)| match kind {
-            "&[u8]" => format!("const uint8_t *{name}, size_t {name}_len"),
-            "&mut [u8]" => format!("uint8_t *{name}, size_t {name}_len"),
-            "&mut [u64; 16]" => format!("uint64_t {name}[16]"),
-            _ => format!("{} {name}", number(kind)),
-        })
+        .split(',')
+        .filter_map(|text| text.trim().split_once(": "))
+        .map(|(name, kind)| parameter(name, kind))
         .collect();
     let result = number(result.trim_start_matches([' ', '-', '>']).trim());
     format!("{result} {name}({})", parameters.join(", "))
@@ -91,7 +195,6 @@ fn prototype(signature: &str) -> String {
 /// A type of numbers in C.
 fn number(kind: &str) -> &str {
     match kind {
-        "usize" => "size_t",
         "u64" => "uint64_t",
         "u8" => "uint8_t",
         other => panic!("{other} has no place in the header"),

@@ -1,7 +1,7 @@
-//! The field, encoding and reading of data, compared with the independent program.
+//! The field, encoding, extracting and checking, compared with the independent program.
 
 use compare::{SHAPES_AT_THE_LIMITS, agree, numbered, random_shape, twin};
-use jibrufath::{Shape, encode, field, read_data};
+use jibrufath::{Shape, encode, extract, field, is_code_cube};
 use reference::random::Random;
 
 #[test]
@@ -32,14 +32,33 @@ fn powers_past_the_period() {
 fn compare(random: &mut Random, shape: Shape) {
     let data = random.bytes(twin(shape).capacity());
     let code_cube = compare_encode(random, shape, &data);
-    compare_read_data(random, shape, &code_cube);
+    compare_extract(random, shape, &code_cube);
     let garbage = random.bytes(code_cube.len());
-    compare_read_data(random, shape, &garbage);
+    compare_extract(random, shape, &garbage);
+    assert!(compare_check(random, shape, &code_cube), "{shape:?}");
+    compare_check(random, shape, &garbage);
+    let mut damaged = code_cube;
+    let at = random.among(0..=damaged.len() - 1);
+    damaged[at] ^= random.nonzero_byte();
+    assert!(!compare_check(random, shape, &damaged), "{shape:?}, {at}");
+}
+
+/// Whether any cube is a code cube, by both programs.
+fn compare_check(random: &mut Random, shape: Shape, cube: &[u8]) -> bool {
+    agree(
+        &format!("is_code_cube {shape:?}"),
+        random,
+        [cube],
+        |[cube]| numbered(is_code_cube(shape, cube)),
+        |[cube]| reference::is_code_cube(twin(shape), cube),
+    )
+    .answer
+    .expect("the shape is good")
 }
 
 /// Encodes over garbage, compares every byte, and hands back the code cube.
 fn compare_encode(random: &mut Random, shape: Shape, data: &[u8]) -> Vec<u8> {
-    let garbage = random.bytes(twin(shape).cube_len());
+    let garbage = random.bytes(twin(shape).cube_bytes());
     let [_, code_cube] = agree(
         &format!("encode {shape:?}"),
         random,
@@ -52,14 +71,14 @@ fn compare_encode(random: &mut Random, shape: Shape, data: &[u8]) -> Vec<u8> {
 }
 
 /// Reads the data of any cube, over garbage, and compares every byte.
-fn compare_read_data(random: &mut Random, shape: Shape, cube: &[u8]) {
+fn compare_extract(random: &mut Random, shape: Shape, cube: &[u8]) {
     let garbage = random.bytes(twin(shape).capacity());
     agree(
-        &format!("read_data {shape:?}"),
+        &format!("extract {shape:?}"),
         random,
         [cube, &garbage],
-        |[cube, data]| numbered(read_data(shape, cube, data)),
-        |[cube, data]| reference::read_data(twin(shape), cube, data),
+        |[cube, data]| numbered(extract(shape, cube, data)),
+        |[cube, data]| reference::extract(twin(shape), cube, data),
     );
 }
 
@@ -127,7 +146,7 @@ fn assert_refused(shape: Shape, data_len: usize, cube_len: usize, number: u8) {
     let before: [&[u8]; 2] = [&data, &cube];
     let calls = [
         |[data, cube]: [&mut [u8]; 2], shape| encode(shape, data, cube),
-        |[data, cube]: [&mut [u8]; 2], shape| read_data(shape, cube, data),
+        |[data, cube]: [&mut [u8]; 2], shape| extract(shape, cube, data),
     ];
     for call in calls {
         let call = |lent: [&mut [u8]; 2]| numbered(call(lent, shape));
@@ -164,6 +183,24 @@ fn slices_of_other_lengths() {
 }
 
 #[test]
+fn checks_refused() {
+    let good = Shape::new(5, 4, 3, 2);
+    let other_lengths = [0, 1, 60, 119, 121, 240].map(|len| (good, len, 4));
+    let limits = SHAPES_AT_THE_LIMITS.map(|(shape, number)| (shape, 28, number));
+    let mut random = Random::new(2007);
+    for (shape, len, number) in limits.into_iter().chain(other_lengths) {
+        let cube = random.bytes(len);
+        agree(
+            &format!("is_code_cube {shape:?} with {len} bytes"),
+            &mut random,
+            [&cube],
+            |[cube]| numbered(is_code_cube(shape, cube)),
+            |_| Err(number),
+        );
+    }
+}
+
+#[test]
 fn lengths_and_widths_that_pass() {
     let mut random = Random::new(2006);
     for (l1, l2, l3, w) in [
@@ -184,18 +221,18 @@ fn sizes_of_a_shape() {
         let sizes = [
             shape.check().map(|()| 0),
             shape.cells(),
-            shape.cube_len(),
-            shape.data_len(),
-            shape.pack_len(),
-            shape.file_len(),
+            shape.cube_bytes(),
+            shape.capacity(),
+            shape.pack_bytes(),
+            shape.file_bytes(),
         ];
         let expected = match number {
             4 => [
                 Ok(0),
                 Ok(other.cells()),
-                Ok(other.cube_len()),
+                Ok(other.cube_bytes()),
                 Ok(other.capacity()),
-                Ok(other.pack_len()),
+                Ok(other.pack_bytes()),
                 other.capacity().checked_sub(4).ok_or(10),
             ],
             _ => [Err(number); 6],

@@ -3,7 +3,7 @@
 use compare::{
     LARGE_SHAPES, SHAPES_AT_THE_LIMITS, agree, numbered, random_code_cube, random_shape, twin,
 };
-use jibrufath::{Shape, mend, mend_pass};
+use jibrufath::{Shape, mend, mend_axis};
 use reference::field::{inverse, mul, pow};
 use reference::random::Random;
 
@@ -64,8 +64,8 @@ fn compare_pass(random: &mut Random, shape: Shape, axis: usize, damaged: &[u8]) 
         &format!("{shape:?}, axis {axis}"),
         random,
         [damaged],
-        |[cube]| numbered(mend_pass(shape, axis, cube)),
-        |[cube]| reference::mend_pass(twin(shape), axis, cube),
+        |[cube]| numbered(mend_axis(shape, axis, cube)),
+        |[cube]| reference::mend_axis(twin(shape), axis, cube),
     );
 }
 
@@ -210,7 +210,7 @@ fn each_pass_has_its_share() {
             for axis in 1..=first_pass_that_restores {
                 assert_ne!(cube, right, "{shape:?}, {sizes:?} before axis {axis}");
                 compare_passes(&mut random, shape, &cube);
-                mend_pass(shape, axis, &mut cube).expect("the shape is good");
+                mend_axis(shape, axis, &mut cube).expect("the shape is good");
             }
             assert_eq!(cube, right, "{shape:?}, {sizes:?}");
         }
@@ -222,7 +222,7 @@ fn passes_over_garbage() {
     let mut random = Random::new(4005);
     for _ in 0..1_000 {
         let shape = random_shape(&mut random);
-        let mut garbage = random.bytes(twin(shape).cube_len());
+        let mut garbage = random.bytes(twin(shape).cube_bytes());
         // Also cubes of few bytes that are not 00h: there more lines have one sum 00h.
         if random.chance(50) {
             garbage
@@ -281,7 +281,7 @@ fn examples_of_document_01() {
     let line = twin(shape).line_through(1, 0);
     assert_eq!(twin(shape).sums(&cube, line), [[0x01], [0x08]]);
     let before = cube;
-    mend_pass(shape, 1, &mut cube).expect("the shape is good");
+    mend_axis(shape, 1, &mut cube).expect("the shape is good");
     assert_eq!(cube, before);
 }
 
@@ -292,7 +292,7 @@ fn lines_with_every_pair_of_sums() {
         let shape = Shape::new(l1, 3, 3, 1024);
         let mut random = Random::new(4008);
         for first in 0..=255u8 {
-            let mut cube = vec![0; twin(shape).cube_len()];
+            let mut cube = vec![0; twin(shape).cube_bytes()];
             for second in 0..=255u8 {
                 // c0 + c1 = first and c0 + 2 c1 = second.
                 let c1 = mul(first ^ second, inverse(0x03).expect("not 00h"));
@@ -330,7 +330,7 @@ fn assert_pass_refused(shape: Shape, axis: usize, len: usize, number: u8) {
         &format!("{shape:?}, axis {axis}, {len} bytes"),
         &mut random,
         [&cube],
-        |[cube]| numbered(mend_pass(shape, axis, cube)),
+        |[cube]| numbered(mend_axis(shape, axis, cube)),
         |_| Err(number),
     );
 }

@@ -3,10 +3,9 @@
 use std::collections::BTreeMap;
 
 use compare::{
-    Answers, KINDS, LARGE_SHAPES, Lens, SHAPES_AT_THE_LIMITS, Source, Trial, numbered,
-    random_shape, twin,
+    Answers, KINDS, LARGE_SHAPES, Lens, SHAPES_AT_THE_LIMITS, Source, Trial, random_shape, twin,
 };
-use jibrufath::{Reception, Refusal, Shape, receive, write};
+use jibrufath::{Error, Reception, Refusal, Shape, receive, write};
 use reference::pack::{Packet, pack, packet, read_air};
 use reference::random::Random;
 use reference::write::data_string;
@@ -311,7 +310,7 @@ fn places_left_and_contradictions() {
     let first = |place| place == [0, 0, 0];
     let but_first = |place| place != [0, 0, 0];
     let off_diagonal = |[a, b, _]: [usize; 3]| a != b;
-    let latin = |[a, b, c]: [usize; 3]| !(a + b + c).is_multiple_of(4);
+    let latin = |[a, b, c]: [usize; 3]| (a + b + c) % 4 != 0;
     // The cells lost; whether a byte of cell (0,0,0) is wrong; the cells left, or the refusal.
     for (shape, lost, wrong, answer) in [
         (block, none as fn([usize; 3]) -> bool, false, Ok(0)),
@@ -431,10 +430,10 @@ fn memory_of_its_own() {
         let shape = random_shape(&mut random);
         let other = twin(shape);
         if other.capacity() < 4 {
-            assert_eq!(write(shape, &[]), Err(Refusal::Capacity));
+            assert_eq!(write(shape, &[]), Err(Refusal::Capacity.into()));
             continue;
         }
-        let len = random.among(0..=other.file_room());
+        let len = random.among(0..=other.file_bytes());
         let file = random.bytes(len);
         let source = Source::new(other, &data_string(other, &file));
         let all: Vec<usize> = (0..other.cells()).collect();
@@ -448,14 +447,29 @@ fn memory_of_its_own() {
         let left: Vec<usize> = all.into_iter().filter(|&cell| stuck[cell]).collect();
         let packets = read_air(&air).expect("a good pack").packets.len() as u64;
         let heard = lost.iter().filter(|&&lost| !lost).count() as u64;
-        let expected = Reception {
-            shape,
-            file: left.is_empty().then_some(file),
-            left,
-            packets,
-            repeats: packets - heard,
-        };
-        assert_eq!(receive(&air), Ok(expected), "{shape:?}");
+        let counts = [packets, packets - heard];
+        let reception = receive(&air).expect("a code cube with losses");
+        assert!(reception.left().eq(left.iter().copied()), "{shape:?}");
+        match reception {
+            Reception::File {
+                file: received,
+                packets,
+                repeats,
+                ..
+            } => {
+                assert!(left.is_empty() && received == file, "{shape:?}");
+                assert_eq!([packets, repeats], counts, "{shape:?}");
+            }
+            Reception::Left {
+                cells,
+                packets,
+                repeats,
+                ..
+            } => {
+                assert_eq!(cells, left.len(), "{shape:?}");
+                assert_eq!([packets, repeats], counts, "{shape:?}");
+            }
+        }
     }
 }
 
@@ -463,28 +477,37 @@ fn memory_of_its_own() {
 fn refusals_with_memory_of_its_own() {
     for (shape, number) in SHAPES_AT_THE_LIMITS {
         if number != 4 {
-            assert_eq!(numbered(write(shape, &[])), Err(number), "{shape:?}");
+            let refused = refusal(write(shape, &[]));
+            assert_eq!(refused.map(Refusal::number), Some(number), "{shape:?}");
         }
     }
     assert_eq!(
         write(Shape::new(3, 3, 3, 8), &[7; 5]),
-        Err(Refusal::Capacity)
+        Err(Refusal::Capacity.into())
     );
 
     let mut random = Random::new(5004);
     for case in 0..3_600 {
         let (kind, make) = KINDS[case % KINDS.len()];
         let trial = Trial::new(make(&mut random));
-        let Err(refusal) = tried(kind, &trial).receive else {
+        let Err(expected) = tried(kind, &trial).receive else {
             continue;
         };
         // Only a trial whose cube is too large to lend.
-        if refusal.number == 4 {
+        if expected.number == 4 {
             continue;
         }
-        let refused = receive(&trial.pack).expect_err(kind);
-        assert_eq!(refused.number(), refusal.number, "{kind}");
-        assert_eq!(refused.packet(), refusal.packet, "{kind}");
+        let refused = refusal(receive(&trial.pack)).expect(kind);
+        assert_eq!(refused.number(), expected.number, "{kind}");
+        assert_eq!(refused.packet(), expected.packet, "{kind}");
+    }
+}
+
+/// The refusal in an error; none where the call did its work or had no memory.
+fn refusal<T>(result: Result<T, Error>) -> Option<Refusal> {
+    match result {
+        Err(Error::Refused(refusal)) => Some(refusal),
+        _ => None,
     }
 }
 
@@ -500,6 +523,13 @@ fn example_of_document_01() {
     let air = pack(shape, &[], &packets);
     assert_eq!(air[17..], written[17 + 8..]);
     let reception = receive(&air).expect("a code cube with one loss");
-    assert_eq!(reception.file.as_deref(), Some(&file[..]));
-    assert_eq!((reception.packets, reception.repeats), (26, 0));
+    assert!(matches!(
+        reception,
+        Reception::File {
+            packets: 26,
+            repeats: 0,
+            ..
+        }
+    ));
+    assert_eq!(reception.into_file().as_deref(), Some(&file[..]));
 }

@@ -1,4 +1,4 @@
-//! The one code cube that has a given data string, and the data string of a cube.
+//! The one code cube that has a given data string, the data string of a cube, and whether a cube is a code cube.
 
 use crate::field::{pow, products};
 use crate::linear::{Solutions, solve};
@@ -16,7 +16,7 @@ pub fn encode(shape: Shape, data: &[u8], cube: &mut [u8]) -> Result<(), u8> {
 }
 
 /// Reads the data string of a cube, whether or not that is a code cube.
-pub fn read_data(shape: Shape, cube: &[u8], data: &mut [u8]) -> Result<(), u8> {
+pub fn extract(shape: Shape, cube: &[u8], data: &mut [u8]) -> Result<(), u8> {
     check(shape, data.len(), cube.len())?;
     for (cell, packet) in data_cells(shape).zip(data.chunks_mut(shape.w)) {
         packet.copy_from_slice(&cube[shape.bytes(cell)]);
@@ -24,9 +24,18 @@ pub fn read_data(shape: Shape, cube: &[u8], data: &mut [u8]) -> Result<(), u8> {
     Ok(())
 }
 
+/// Whether every line of the cube is right in every layer.
+pub fn is_code_cube(shape: Shape, cube: &[u8]) -> Result<bool, u8> {
+    shape.check(None)?;
+    if cube.len() != shape.cube_bytes() {
+        return Err(4);
+    }
+    Ok(shape.is_code_cube(cube))
+}
+
 fn check(shape: Shape, data_len: usize, cube_len: usize) -> Result<(), u8> {
     shape.check(None)?;
-    if data_len != shape.capacity() || cube_len != shape.cube_len() {
+    if data_len != shape.capacity() || cube_len != shape.cube_bytes() {
         return Err(4);
     }
     Ok(())
@@ -157,14 +166,14 @@ mod tests {
             let [l1, l2, l3, w] = [6, 5, 5, 4].map(|most| random.among(3..=most));
             let shape = Shape::new(l1, l2, l3, w);
             let data = random.bytes(shape.capacity());
-            let mut by_solving = random.bytes(shape.cube_len());
-            let mut line_by_line = random.bytes(shape.cube_len());
+            let mut by_solving = random.bytes(shape.cube_bytes());
+            let mut line_by_line = random.bytes(shape.cube_bytes());
             by_equations(shape, &data, &mut by_solving);
             by_lines(shape, &data, &mut line_by_line);
             assert_eq!(by_solving, line_by_line, "{shape:?}");
             assert!(shape.is_code_cube(&by_solving));
             let mut back = vec![0; data.len()];
-            read_data(shape, &by_solving, &mut back).unwrap();
+            extract(shape, &by_solving, &mut back).unwrap();
             assert_eq!(back, data);
         }
     }
@@ -180,7 +189,7 @@ mod tests {
         ] {
             let shape = Shape::new(l1, l2, l3, w);
             let data = random.bytes(shape.capacity());
-            let mut cube = random.bytes(shape.cube_len());
+            let mut cube = random.bytes(shape.cube_bytes());
             encode(shape, &data, &mut cube).unwrap();
             assert!(shape.is_code_cube(&cube), "{shape:?}");
         }

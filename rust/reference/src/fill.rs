@@ -15,7 +15,7 @@ use crate::{CELLS_BY_EQUATIONS, Shape};
 /// Fills the cube. The answer is the size of K.
 pub fn fill(shape: Shape, cube: &mut [u8], flags: &mut [u8]) -> Result<usize, u8> {
     shape.check(None)?;
-    if cube.len() != shape.cube_len() || flags.len() != shape.cells() {
+    if cube.len() != shape.cube_bytes() || flags.len() != shape.cells() {
         return Err(4);
     }
     if flags.iter().any(|&flag| flag > 1) {
@@ -192,7 +192,7 @@ mod tests {
             let [l1, l2, l3, w] = [5, 5, 4, 3].map(|most| random.among(3..=most));
             let shape = Shape::new(l1, l2, l3, w);
             let data = random.bytes(shape.capacity());
-            let mut cube = vec![0; shape.cube_len()];
+            let mut cube = vec![0; shape.cube_bytes()];
             encode(shape, &data, &mut cube).unwrap();
             if case % 3 == 0 {
                 let place = random.among(0..=cube.len() - 1);

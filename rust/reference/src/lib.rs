@@ -19,9 +19,10 @@ pub mod receive;
 pub mod shape;
 pub mod write;
 
-pub use encode::{encode, read_data};
+pub use encode::{encode, extract, is_code_cube};
 pub use fill::fill;
-pub use mend::{mend, mend_pass};
+pub use mend::{mend, mend_axis};
+pub use pack::needs;
 pub use receive::{Outcome, Received, Refusal, receive_pack};
 pub use shape::Shape;
 pub use write::write_pack;

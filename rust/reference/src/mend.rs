@@ -4,9 +4,9 @@ use crate::Shape;
 use crate::field::{PERIOD, logarithm};
 
 /// One pass along an axis (1, 2 or 3).
-pub fn mend_pass(shape: Shape, axis: usize, cube: &mut [u8]) -> Result<(), u8> {
+pub fn mend_axis(shape: Shape, axis: usize, cube: &mut [u8]) -> Result<(), u8> {
     shape.check(Some(axis))?;
-    if cube.len() != shape.cube_len() {
+    if cube.len() != shape.cube_bytes() {
         return Err(4);
     }
     for line in shape.lines(axis) {
@@ -29,7 +29,7 @@ pub fn place_of_error(first: u8, second: u8, length: usize) -> Option<usize> {
 /// The three passes on a copy; what they leave is written if it is a code cube.
 pub fn mend(shape: Shape, cube: &[u8], flags: &[u8], second: &mut [u8]) -> Result<(), u8> {
     shape.check(None)?;
-    let bytes = shape.cube_len();
+    let bytes = shape.cube_bytes();
     if cube.len() != bytes || flags.len() != shape.cells() || second.len() != bytes {
         return Err(4);
     }
@@ -41,7 +41,7 @@ pub fn mend(shape: Shape, cube: &[u8], flags: &[u8], second: &mut [u8]) -> Resul
     }
     let mut mended = cube.to_vec();
     for axis in 1..=3 {
-        mend_pass(shape, axis, &mut mended)?;
+        mend_axis(shape, axis, &mut mended)?;
     }
     if shape.is_code_cube(&mended) {
         second.copy_from_slice(&mended);

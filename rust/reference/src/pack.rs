@@ -31,12 +31,31 @@ pub fn read_shape(pack: &[u8]) -> Result<Shape, u8> {
     Rest(pack).shape()
 }
 
+/// What a pack's calls are lent, by section 1 alone: the shape, cells, the bytes of a cube, of a data string, of a file buffer
+/// and of a written pack, then zeros.
+pub fn needs(pack: &[u8]) -> Result<[u64; 16], u8> {
+    let shape = read_shape(pack)?;
+    let [l1, l2, l3] = shape.lengths;
+    let sizes = [
+        shape.cells(),
+        shape.cube_bytes(),
+        shape.capacity(),
+        shape.file_bytes(),
+        shape.pack_bytes(),
+    ];
+    let mut needs = [0; 16];
+    for (place, number) in [l1, l2, l3, shape.w].into_iter().chain(sizes).enumerate() {
+        needs[place] = number as u64;
+    }
+    Ok(needs)
+}
+
 /// Reads a pack as the writer does.
 pub fn read_job(pack: &[u8]) -> Result<Job<'_>, u8> {
     let mut rest = Rest(pack);
     let shape = rest.shape()?;
     let count = rest.count()?;
-    if count > shape.file_room() as u64 {
+    if count > shape.file_bytes() as u64 {
         return Err(10);
     }
     let file = rest.take(count)?;
@@ -55,9 +74,9 @@ pub fn read_air(pack: &[u8]) -> Result<Air<'_>, u8> {
         return Err(9);
     }
     let packets = rest.count()?;
-    let section = rest.take(packets * shape.packet_len() as u64)?;
+    let section = rest.take(packets * shape.packet_bytes() as u64)?;
     rest.end()?;
-    let packets = section.chunks(shape.packet_len()).map(|packet| {
+    let packets = section.chunks(shape.packet_bytes()).map(|packet| {
         let (place, bytes) = packet.split_at(3);
         let place = place.try_into().expect("three coordinates");
         Packet { place, bytes }
@@ -179,6 +198,16 @@ mod tests {
             with(&[0, 0, 0, 0, 1, 0, 0, 0, 2, 1, 255, 1, 2, 3, 4, 5])
         );
         assert_eq!(read_air(&air), Ok(Air { shape, packets }));
+    }
+
+    #[test]
+    fn what_a_pack_needs() {
+        let needed = [3, 3, 3, 5, 27, 135, 5, 1, 233, 0, 0, 0, 0, 0, 0, 0];
+        assert_eq!(needs(&SHAPE), Ok(needed));
+        assert_eq!(needs(&with(&[0xFF; 100])), Ok(needed));
+        for len in 0..9 {
+            assert_eq!(needs(&SHAPE[..len]), Err(6));
+        }
     }
 
     #[test]

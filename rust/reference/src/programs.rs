@@ -17,11 +17,11 @@ pub fn write(input: &[u8]) -> Vec<u8> {
         Err(number) => return refused(number),
         Ok(job) => job.shape,
     };
-    if shape.cube_len() > MOST_BYTES || shape.pack_len() > MOST_BYTES {
+    if shape.cube_bytes() > MOST_BYTES || shape.pack_bytes() > MOST_BYTES {
         return TOO_BIG.into();
     }
-    let mut cube = vec![0; shape.cube_len()];
-    let mut output = vec![0; shape.pack_len()];
+    let mut cube = vec![0; shape.cube_bytes()];
+    let mut output = vec![0; shape.pack_bytes()];
     match write_pack(input, &mut cube, &mut output) {
         Err(number) => refused(number),
         Ok(()) => output,
@@ -37,12 +37,12 @@ pub fn receive(input: &[u8]) -> Vec<u8> {
         Err(number) => return refused(number),
         Ok(air) => air.shape,
     };
-    if shape.cube_len() > MOST_BYTES {
+    if shape.cube_bytes() > MOST_BYTES {
         return TOO_BIG.into();
     }
-    let mut cube = vec![0; shape.cube_len()];
+    let mut cube = vec![0; shape.cube_bytes()];
     let mut flags = vec![0; shape.cells()];
-    let mut file = vec![0; shape.file_room()];
+    let mut file = vec![0; shape.file_bytes()];
     match receive_pack(input, &mut cube, &mut flags, &mut file) {
         Err(Refusal { number, .. }) => refused(number),
         Ok(received) => report(shape, received, &flags, &file).into(),

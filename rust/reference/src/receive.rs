@@ -3,7 +3,7 @@
 use std::collections::BTreeMap;
 
 use crate::pack::{Air, COUNT, number, read_air};
-use crate::{Shape, fill, read_data};
+use crate::{Shape, extract, fill};
 
 /// What came of a pack that was not refused.
 #[derive(Clone, Copy, Debug, PartialEq, Eq)]
@@ -55,7 +55,7 @@ pub fn receive_pack(
 ) -> Result<Received, Refusal> {
     let Air { shape, packets } = read_air(air)?;
     let lent = [cube.len(), flags.len(), file.len()];
-    if lent != [shape.cube_len(), shape.cells(), shape.file_room()] {
+    if lent != [shape.cube_bytes(), shape.cells(), shape.file_bytes()] {
         return Err(4.into());
     }
     let places = packets.iter().map(|packet| packet.place.map(usize::from));
@@ -93,7 +93,7 @@ pub fn receive_pack(
 /// Reads the file of a code cube, and answers its length; 14 where the data string is none of a file.
 fn read_file(shape: Shape, cube: &[u8], file: &mut [u8]) -> Result<usize, u8> {
     let mut data = vec![0; shape.capacity()];
-    read_data(shape, cube, &mut data)?;
+    extract(shape, cube, &mut data)?;
     let (head, rest) = data.split_at(COUNT);
     let len = number(head);
     if len > rest.len() as u64 {
@@ -121,7 +121,7 @@ mod tests {
     };
 
     fn code_cube(data: &[u8]) -> Vec<u8> {
-        let mut cube = vec![0; SHAPE.cube_len()];
+        let mut cube = vec![0; SHAPE.cube_bytes()];
         encode(SHAPE, data, &mut cube).unwrap();
         cube
     }

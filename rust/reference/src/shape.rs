@@ -64,7 +64,7 @@ impl Shape {
     }
 
     /// The bytes of a cube.
-    pub fn cube_len(self) -> usize {
+    pub fn cube_bytes(self) -> usize {
         self.w * self.cells()
     }
 
@@ -74,18 +74,18 @@ impl Shape {
     }
 
     /// The most bytes of a file: what the data string has beside the file's length.
-    pub fn file_room(self) -> usize {
+    pub fn file_bytes(self) -> usize {
         self.capacity() - COUNT
     }
 
     /// The bytes of a packet: three coordinates and the cell.
-    pub fn packet_len(self) -> usize {
+    pub fn packet_bytes(self) -> usize {
         3 + self.w
     }
 
     /// The bytes of a written pack.
-    pub fn pack_len(self) -> usize {
-        17 + self.cells() * self.packet_len()
+    pub fn pack_bytes(self) -> usize {
+        17 + self.cells() * self.packet_bytes()
     }
 
     /// The number of cell (a, b, c).

@@ -6,7 +6,7 @@ use crate::{Shape, encode};
 /// Writes the code cube of the job's file, and the pack of all its packets in cell order.
 pub fn write_pack(job: &[u8], cube: &mut [u8], output: &mut [u8]) -> Result<(), u8> {
     let Job { shape, file } = read_job(job)?;
-    if cube.len() != shape.cube_len() || output.len() != shape.pack_len() {
+    if cube.len() != shape.cube_bytes() || output.len() != shape.pack_bytes() {
         return Err(4);
     }
     encode(shape, &data_string(shape, file), cube)?;

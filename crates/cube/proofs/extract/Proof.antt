@@ -1,8 +1,12 @@
 -- `extract` refuses by the checks and changes nothing, or leaves the data string of the cube.
-use mathlib.Core.Path.{sym, _∙_}
+use native.Mathlib.Omega.{arith}
 use borrow.Author.Needs.{needs}
-use Rattle.cube.proofs.Valid.{checked-done}
-use Rattle.cube.proofs.Outcomes.{extract-refused, extract-done}
+use Rattle.cube.proofs.Checks.{checked-done}
+use Rattle.answer.specs.Values.{answerValue}
+use Rattle.answer.proofs.Values.{answer-passed}
+use Rattle.cube.specs.Calls.{extract-done}
+use Rattle.cube.proofs.Reading.{read-whole}
+use Rattle.cube.proofs.Outcomes.{extract-unfit}
 use Rattle.cube.proofs.extract.Statement.{statement}
 use Rattle.cube.proofs.extract.Tie as tie
 
@@ -16,20 +20,22 @@ enum-told-2 : tie.Need-enum-told-2
 enum-told-2 c = search needs
 
 returns : tie.Need-returns
-returns c = extract-refused _ _ _ _ _ (c .before .before .slices-fit .ensures) (c .enum-told2 .given .1)
+returns c = extract-unfit _ _ _ _ _ (c .before .before .slices-fit .ensures) (c .enum-told2 .given .1)
 
-extract-planes-requires : tie.Need-extract-planes-requires
-extract-planes-requires c κs =
-    let (valid, part, bytes) = checked-done _ _ _ (sym (c .before .before .before .slices-fit .ensures) ∙ c .before .enum-told .given .1) in
-    (valid, bytes, part)
+copy-data-requires : tie.Need-copy-data-requires
+copy-data-requires c κs =
+    let (valid, part, bytes) = checked-done _ _ _ (answer-passed _ _ (c .before .before .before .slices-fit .ensures) (c .before .enum-told .given .1)) in
+    (valid, bytes, omega (arith, part), omega arith)
 
 same-length : tie.Need-same-length
 same-length c = search needs
 
 returns-2 : tie.Need-returns-2
+unfolding answerValue
 returns-2 c =
     let told = c .before .before .before .before in
-    extract-done _ _ _ _ _ (told .before .before .slices-fit .ensures) (told .enum-told .given .1) (c .before .before .extract-planes .ensures)
+    let checks = answer-passed _ _ (told .before .before .slices-fit .ensures) (told .enum-told .given .1) in
+    extract-done checks (read-whole _ _ (checked-done _ _ _ checks .0) _ _ (checked-done _ _ _ checks .1) (c .before .before .copy-data .ensures))
 
 pub extract-spec : {M : Type 1} → statement M
 extract-spec =
@@ -39,6 +45,6 @@ extract-spec =
     enum-told
     enum-told-2
     returns
-    extract-planes-requires
+    copy-data-requires
     same-length
     returns-2)

@@ -1,9 +1,12 @@
 -- `cube::slices_fit` meets its contract. Assumes nothing.
-use mathlib.Core.Path.{sym, _∙_}
 use mathlib.Core.Logic.{⊎-elim}
 use borrow.Author.Needs.{needs}
 use borrow.Author.Tests.{eq-eqb, ne-eqb}
-use Rattle.cube.specs.Shapes.{both}
+use Rattle.answer.specs.Refusals.{faultNumber}
+use Rattle.answer.specs.Values.{andThen, check, checked, refusal, answerValue}
+use Rattle.answer.proofs.Values.{then-refused}
+use Rattle.shape.specs.Shapes.{both}
+use Rattle.shape.proofs.Valid.{measure-fits, measure-refused}
 use Rattle.cube.specs.Calls.{slicesChecked}
 use Rattle.cube.proofs.slices_fit.Statement.{statement}
 use Rattle.cube.proofs.slices_fit.Tie as tie
@@ -18,22 +21,24 @@ enum-known-z : tie.Need-enum-known-z
 enum-known-z c = search needs
 
 returns : tie.Need-returns
-unfolding slicesChecked
-returns c = rw (sym (c .before .before .before .measure .ensures) ∙ c .before .f .given .1)
+unfolding slicesChecked answerValue
+returns c = then-refused _ _ _ (measure-refused _ _ _ (c .before .before .before .measure .ensures) (c .before .f .given .1))
 
 returns-2 : tie.Need-returns-2
-unfolding slicesChecked both
+unfolding slicesChecked both answerValue andThen check checked
 returns-2 c =
+    let measured = c .before .before .before .before .before in
     rw (
-      sym (c .before .before .before .before .before .before .before .measure .ensures) ∙ c .before .before .before .before .before .z .given .1,
+      measure-fits _ _ _ (measured .before .before .measure .ensures) (measured .z .given .1),
       eq-eqb _ _ (c .before .before .if1 .taken),
       c .if2 .taken,
     )
 
 returns-3 : tie.Need-returns-3
-unfolding slicesChecked both
+unfolding slicesChecked both answerValue refusal faultNumber andThen check checked
 returns-3 c =
-    rw (sym (c .before .before .before .before .before .measure .ensures) ∙ c .before .before .before .z .given .1)
+    let measured = c .before .before .before in
+    rw (measure-fits _ _ _ (measured .before .before .measure .ensures) (measured .z .given .1))
     (⊎-elim (λ w. rw (eq-eqb _ _ (w .0 .taken), w .2 .left)) (λ w. rw (ne-eqb _ _ (w .left))) (c .if1 .came))
 
 pub slices-fit-spec : {M : Type 1} → statement M

@@ -3,16 +3,17 @@ use mathlib.Core.Path.{_≡_, sym, _∙_}
 use mathlib.Core.Logic.{inl, inr, ⊎-elim}
 use mathlib.Core.Bool.{true, false}
 use borrow.Author.Tests.{eqb-true, eqb-false, not-true, not-false}
-use Rattle.cube.specs.declared.Measured.the-variants.{Fits}
-use Rattle.cube.specs.Shapes.{measured}
-use Rattle.fill.proofs.Checks.{checked-misfit, checked-length, checked-flags}
+use Rattle.answer.specs.Values.{passes}
+use Rattle.shape.specs.Shapes.{shapeChecked}
+use Rattle.shape.proofs.Valid.{measure-fits}
+use Rattle.fill.proofs.Checks.{checked-shape, checked-length, checked-flags}
 use borrow.Author.Needs.{needs}
 use Rattle.fill.proofs.check.Statement.{statement}
 use Rattle.fill.proofs.check.Tie as tie
 
 fits :
-    (c : tie.After-struct-known) → measured (c .before .before .before .before .before .before .args .sh) ≡ Fits (c .before .before .z .given .0 .0)
-fits c = sym (c .before .before .before .before .measure .ensures) ∙ c .before .before .z .given .1
+    (c : tie.After-struct-known) → shapeChecked (c .before .before .before .before .before .before .args .sh) ≡ passes (c .before .before .z .given .0 .0)
+fits c = measure-fits _ _ _ (c .before .before .before .before .measure .ensures) (c .before .before .z .given .1)
 
 measure-requires : tie.Need-measure-requires
 measure-requires c κs = search needs
@@ -31,16 +32,16 @@ valid-requires : tie.Need-valid-requires
 valid-requires c κs = search needs
 
 returns-2 : tie.Need-returns-2
-returns-2 c = checked-misfit _ _ _ _ (sym (c .before .before .before .measure .ensures) ∙ c .before .f .given .1)
+returns-2 c = checked-shape _ _ _ _ _ (c .before .before .before .measure .ensures) (c .before .f .given .1)
 
 returns-3 : tie.Need-returns-3
 returns-3 c =
-    checked-flags _ _ _ _ true (fits (c .before .before .before .before .before)) (c .before .before .before .before .if1 .left)
+    checked-flags _ _ _ _ (fits (c .before .before .before .before .before)) true (c .before .before .before .before .if1 .left)
     (eqb-true _ _ (not-false _ (c .before .before .if2 .left))) (sym (c .before .valid .ensures) ∙ c .if3 .taken)
 
 returns-4 : tie.Need-returns-4
 returns-4 c =
-    checked-flags _ _ _ _ false (fits (c .before .before .before .before .before)) (c .before .before .before .before .if1 .left)
+    checked-flags _ _ _ _ (fits (c .before .before .before .before .before)) false (c .before .before .before .before .if1 .left)
     (eqb-true _ _ (not-false _ (c .before .before .if2 .left))) (sym (c .before .valid .ensures) ∙ c .if3 .left)
 
 pub check-spec : {M : Type 1} → statement M

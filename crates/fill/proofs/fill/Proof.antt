@@ -1,24 +1,25 @@
 -- `fill::fill` leaves the filling where one exists, and else says 13 and leaves the missing cells 00h.
-use mathlib.Core.Path.{_≡_, refl, sym, _∙_}
+use mathlib.Core.Path.{_≡_}
 use native.Mathlib.Omega.{arith}
 use borrow.Author.Needs.{needs}
 use denote.Ref.{now}
 use lib.ListN.{length}
-use Rattle.cube.specs.declared.Answer.the-variants.{Done}
-use Rattle.cube.specs.Shapes.{measured}
-use Rattle.fill.specs.Fill.{flagsChecked, FillOutcome, refused}
-use Rattle.fill.specs.State.{Sized}
+use Rattle.answer.specs.Values.{passes}
+use Rattle.answer.proofs.Values.{answer-passed}
+use Rattle.fill.specs.Fill.{flagsChecked}
+use Rattle.fill.specs.Inner.Cells.{Sized}
 use Rattle.fill.proofs.Checks.{done-sized}
 use Rattle.fill.proofs.Clearing.{cleared-sized}
+use Rattle.span.proofs.Decision.{decides-false}
 use Rattle.fill.proofs.Reaching.{reaches-sized}
-use Rattle.fill.proofs.Outcome.{filled-outcome, contradiction-outcome}
+use Rattle.fill.proofs.Outcome.{fill-unfit, filled-outcome, contradiction-outcome}
 use Rattle.fill.proofs.fill.Statement.{statement}
 use Rattle.fill.proofs.fill.Tie as tie
 
 done :
     (c : tie.After-enum-told) →
-    flagsChecked (measured (c .before .before .before .before .before .before .args .sh)) (length (now (c .before .before .before .before .before .before .args .cube))) (now (c .before .before .before .before .before .before .args .flags)) ≡ Done
-done c = sym (c .before .before .check .ensures) ∙ c .enum-told .given .1
+    flagsChecked (c .before .before .before .before .before .before .args .sh) (length (now (c .before .before .before .before .before .before .args .cube))) (now (c .before .before .before .before .before .before .args .flags)) ≡ passes tt
+done c = answer-passed _ _ (c .before .before .check .ensures) (c .enum-told .given .1)
 
 verified :
     (c : tie.After-peel) → Sized (c .before .before .before .before .before .before .before .before .before .before .before .before .before .before .args .sh) (c .peel .last .0) (c .peel .last .1 .0)
@@ -35,7 +36,7 @@ same-length : tie.Need-same-length
 same-length c = search needs
 
 returns : tie.Need-returns
-returns c = FillOutcome.refused _ (sym (c .before .before .before .check .ensures) ∙ c .before .answer .given .1) refl refl
+returns c = fill-unfit _ _ _ _ _ _ (c .before .before .before .check .ensures) (c .before .answer .given .1)
 
 enum-told : tie.Need-enum-told
 enum-told c = search needs
@@ -63,7 +64,7 @@ same-length-3 c = search needs
 
 returns-2 : tie.Need-returns-2
 returns-2 c =
-    filled-outcome _ _ _ _ _ _ (done (c .before .before .before .before .before .before .before .before .before .before .before .before .before .before .before .before .before .before .before .before)) (c .before .before .before .before .before .before .before .before .before .before .before .before .before .before .before .before .before .clear-missing .ensures) (c .before .before .before .before .before .before .before .before .before .before .before .before .peel .ensures) _ (c .before .before .settle .ensures .0)
+    filled-outcome _ _ _ _ _ _ _ (done (c .before .before .before .before .before .before .before .before .before .before .before .before .before .before .before .before .before .before .before .before)) (c .before .before .before .before .before .before .before .before .before .before .before .before .before .before .before .before .before .clear-missing .ensures) (c .before .before .before .before .before .before .before .before .before .before .before .before .peel .ensures) _ (c .before .before .settle .ensures .0)
     (λ q. omega (arith, c .before .before .before .before .before .before .before .before .before .before .slice-known4 .given q)) (c .before .before .before .before .before .verify .ensures .yes-then (c .before .before .before .before .if1 .taken)) _ (c .before .before .settle .ensures .1)
 
 same-length-4 : tie.Need-same-length-4
@@ -74,8 +75,8 @@ same-length-5 c = search needs
 
 returns-3 : tie.Need-returns-3
 returns-3 c =
-    contradiction-outcome _ _ _ _ _ _ (done (c .before .before .before .before .before .before .before .before .before .before .before .before .before .before .before .before .before .before .before .before .before .before .before)) (c .before .before .before .before .before .before .before .before .before .before .before .before .before .before .before .before .before .before .before .before .clear-missing .ensures) (c .before .before .before .before .before .before .before .before .before .before .before .before .before .before .before .peel .ensures) _ _ (c .before .before .before .before .restore .ensures .0)
-    (c .before .before .before .before .restore .ensures .1) (c .before .before .before .before .before .before .before .before .verify .ensures .no-then (c .before .before .before .before .before .before .before .if1 .left))
+    contradiction-outcome _ _ _ _ _ _ _ (done (c .before .before .before .before .before .before .before .before .before .before .before .before .before .before .before .before .before .before .before .before .before .before .before)) (c .before .before .before .before .before .before .before .before .before .before .before .before .before .before .before .before .before .before .before .before .clear-missing .ensures) (c .before .before .before .before .before .before .before .before .before .before .before .before .before .before .before .peel .ensures) _ _ (c .before .before .before .before .restore .ensures .0)
+    (c .before .before .before .before .restore .ensures .1) (decides-false (c .before .before .before .before .before .before .before .before .verify .ensures) (c .before .before .before .before .before .before .before .if1 .left))
 
 pub fill-spec : {M : Type 1} → statement M
 fill-spec =

@@ -1,6 +1,6 @@
 -- `line::inside` decides whether a run lies inside: the last place does exactly when the stride is at most the quotient.
 use native.Mathlib.Omega.{arith}
-use Rattle.line.proofs.Decision.{decides-yes, decides-no, decides-le}
+use Rattle.span.proofs.Decision.{decides-yes, decides-no, decides-le}
 use Rattle.line.proofs.Geometry.{inside-last, inside-one, inside-first, inside-quotient, quotient-inside}
 use borrow.Author.Needs.{needs}
 use Rattle.line.proofs.inside.Statement.{statement}

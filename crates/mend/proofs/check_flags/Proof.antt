@@ -2,8 +2,10 @@
 use mathlib.Core.Path.{_≡_, sym, _∙_}
 use mathlib.Core.Bool.{true}
 use borrow.Author.Tests.{not-true, not-false}
-use Rattle.cube.specs.Flags.{flagsValid}
-use Rattle.mend.specs.Mend.{flagsChecked}
+use Rattle.answer.specs.Refusals.{faultNumber}
+use Rattle.answer.specs.Values.{check, checked, refusal, answerValue}
+use Rattle.shape.specs.Flags.{flagsValid}
+use Rattle.mend.specs.Mend.{wholeChecked}
 use borrow.Author.Needs.{needs}
 use Rattle.mend.proofs.check_flags.Statement.{statement}
 use Rattle.mend.proofs.check_flags.Tie as tie
@@ -15,18 +17,18 @@ valid-requires : tie.Need-valid-requires
 valid-requires c κs = search needs
 
 returns : tie.Need-returns
-unfolding flagsChecked
+unfolding wholeChecked check checked answerValue refusal faultNumber
 returns c = rw (sym (c .before .valid .ensures) ∙ not-true _ (c .if1 .taken))
 
 none-missing-requires : tie.Need-none-missing-requires
 none-missing-requires c κs = search needs
 
 returns-2 : tie.Need-returns-2
-unfolding flagsChecked
+unfolding wholeChecked check checked answerValue refusal faultNumber
 returns-2 c = rw (valid-here (c .before .before), sym (c .before .none-missing .ensures) ∙ not-true _ (c .if2 .taken))
 
 returns-3 : tie.Need-returns-3
-unfolding flagsChecked
+unfolding wholeChecked check checked answerValue
 returns-3 c = rw (valid-here (c .before .before), sym (c .before .none-missing .ensures) ∙ not-false _ (c .if2 .left))
 
 pub check-flags-spec : {M : Type 1} → statement M

@@ -29,7 +29,7 @@ taken-requires : tie.Need-taken-requires Inv-loop μ-loop
 taken-requires c κs = omega arith
 
 put-requires : tie.Need-put-requires Inv-loop μ-loop
-put-requires c κs = omega (arith, c .before .before .before .loop .inv .1 .size)
+put-requires c κs = omega (arith, c .before .before .before .loop .inv .1 .kept .size)
 
 add-i : tie.Need-add-i Inv-loop μ-loop
 add-i c = omega arith
@@ -40,7 +40,7 @@ loop-less c = omega arith
 loop-again : tie.Need-loop-again Inv-loop μ-loop
 loop-again c =
     let turn = c .before .before .before .before .before .before .loop in
-    (omega arith, copied-longer (turn .i) refl (turn .inv .1) (c .before .before .before .taken .ensures) (c .before .before .put .ensures) (omega arith) (omega arith))
+    (omega arith, copied-longer (turn .i) 16 refl (turn .inv .1) (c .before .before .before .taken .ensures) (c .before .before .put .ensures) (omega arith) (omega arith))
 
 add-put-2 : tie.Need-add-put-2 Inv-loop μ-loop
 add-put-2 c = omega arith
@@ -52,17 +52,17 @@ taken-requires-2 : tie.Need-taken-requires-2 Inv-loop μ-loop
 taken-requires-2 c κs = omega arith
 
 put-requires-2 : tie.Need-put-requires-2 Inv-loop μ-loop
-put-requires-2 c κs = omega (arith, c .before .before .before .loop .inv .1 .size)
+put-requires-2 c κs = omega (arith, c .before .before .before .loop .inv .1 .kept .size)
 
 same-length : tie.Need-same-length Inv-loop μ-loop
-same-length c = c .before .before .put2 .ensures .size ∙ c .before .before .before .before .before .before .loop .inv .1 .size
+same-length c = c .before .before .put2 .ensures .kept .size ∙ c .before .before .before .before .before .before .loop .inv .1 .kept .size
 
 returns : tie.Need-returns Inv-loop μ-loop
 returns c =
     let n = c .before .before .before .before .before .before .before .before .before .args .n in
     let turn = c .before .before .before .before .before .before .loop in
     let all : n - 16 + 16 ≡ n = omega arith in
-    rw all at (copied-longer (n - 16) refl (turn .inv .1) (c .before .before .before .taken2 .ensures) (c .before .before .put2 .ensures) (omega arith) (omega arith))
+    rw all at (copied-longer (n - 16) 16 refl (turn .inv .1) (c .before .before .before .taken2 .ensures) (c .before .before .put2 .ensures) (omega arith) (omega arith))
 
 pub copy-pieces-spec : {M : Type 1} → statement M
 copy-pieces-spec =

@@ -28,13 +28,13 @@ add-put : tie.Need-add-put Inv-loop μ-loop
 add-put c = omega arith
 
 put-requires : tie.Need-put-requires Inv-loop μ-loop
-put-requires c κs = omega (arith, c .before .before .before .loop .inv .2 .size)
+put-requires c κs = omega (arith, c .before .before .before .loop .inv .2 .kept .size)
 
 slice-aggregate-put : tie.Need-slice-aggregate-put Inv-loop μ-loop
-slice-aggregate-put c = let turn = c .before .before .before .before .before .before .before .loop in sym (turn .inv .4 .size ∙ turn .inv .3)
+slice-aggregate-put c = let turn = c .before .before .before .before .before .before .before .loop in sym (turn .inv .4 .kept .size ∙ turn .inv .3)
 
 put-requires-2 : tie.Need-put-requires-2 Inv-loop μ-loop
-put-requires-2 c κs = let turn = c .before .before .before .before .before .before .before .loop in omega (arith, turn .inv .4 .size, turn .inv .3)
+put-requires-2 c κs = let turn = c .before .before .before .before .before .before .before .loop in omega (arith, turn .inv .4 .kept .size, turn .inv .3)
 
 add-i : tie.Need-add-i Inv-loop μ-loop
 add-i c = omega arith
@@ -48,13 +48,13 @@ loop-again c =
     let piece = c .before .before .before .before .before .before .before .taken .ensures in (
       omega arith,
       omega arith,
-      copied-longer (turn .i) refl (turn .inv .2) piece (c .before .before .before .before .before .put .ensures) (omega arith) (omega arith),
+      copied-longer (turn .i) 16 refl (turn .inv .2) piece (c .before .before .before .before .before .put .ensures) (omega arith) (omega arith),
       turn .inv .3,
-      copied-longer (turn .i) (omega arith) (turn .inv .4) piece (c .before .put2 .ensures) (omega arith) (omega arith),
+      copied-longer (turn .i) 16 (omega arith) (turn .inv .4) piece (c .before .put2 .ensures) (omega arith) (omega arith),
     )
 
 same-length : tie.Need-same-length Inv-loop μ-loop
-same-length c = c .before .loop .inv .2 .size
+same-length c = c .before .loop .inv .2 .kept .size
 
 returns : tie.Need-returns Inv-loop μ-loop
 returns c =

@@ -36,7 +36,7 @@ loop-again : tie.Need-loop-again Inv-loop μ-loop
 loop-again c = (
   omega arith,
   c .before .before .loop .inv .1,
-  copied-more _ _ _ _ _ _ _ _ (omega arith) refl (omega (arith, c .before .before .loop .inv .2 .size)) (c .before .before .loop .inv .2),
+  copied-more _ _ _ _ _ _ _ _ (omega arith) refl (omega (arith, c .before .before .loop .inv .2 .kept .size)) (c .before .before .loop .inv .2),
 )
 
 returns : tie.Need-returns Inv-loop μ-loop

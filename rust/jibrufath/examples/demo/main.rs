@@ -1,19 +1,18 @@
-//! The demo: writes README.md as packets, loses some of them in three ways, receives the rest, and draws what came of it.
+//! `demo [PATH]`: writes README.md as packets, loses some of them in three ways, receives the rest, and draws what came of it, to
+//! PATH or to target/demo.svg.
 
 mod svg;
 
+use std::env;
 use std::error::Error;
 use std::fs;
-use std::path::Path;
+use std::path::{Path, PathBuf};
 
-use jibrufath::{Shape, receive, write};
+use jibrufath::{AirPack, Reception, Shape, packets, receive, write};
 use reference::random::Random;
 
 /// The lengths of the cube: 600 of its 1,152 cells hold data, the others are parity.
 const LENGTHS: [usize; 3] = [12, 12, 8];
-
-/// The bytes of a pack before its packets.
-const HEAD: usize = 17;
 
 /// What came of a cell.
 #[derive(Clone, Copy, PartialEq, Eq)]
@@ -46,13 +45,22 @@ fn main() -> Result<(), Box<dyn Error>> {
 
     let mut scenes = Vec::new();
     for (title, lost) in losses() {
-        let scene = play(&heard(shape, &pack, &lost), &file, title, &lost)?;
+        let air = heard(shape, &pack, &lost)?;
+        let scene = play(air.as_bytes(), &file, title, &lost)?;
         println!("{title}: {}", scene.outcome);
         scenes.push(scene);
     }
 
-    fs::write(repository.join("docs/demo.svg"), svg::draw(&scenes))?;
-    println!("\nThe planes of the three cubes are drawn in docs/demo.svg.");
+    let drawing = match env::args_os().nth(1) {
+        Some(path) => PathBuf::from(path),
+        None => repository.join("target/demo.svg"),
+    };
+    fs::write(&drawing, svg::draw(&scenes))?;
+    let name = drawing.strip_prefix(repository).unwrap_or(&drawing);
+    println!(
+        "\nThe planes of the three cubes are drawn in {}.",
+        name.display()
+    );
     Ok(())
 }
 
@@ -91,14 +99,14 @@ fn in_stopping_set(cell: usize) -> bool {
 }
 
 /// The pack without the packets that are lost.
-fn heard(shape: Shape, pack: &[u8], lost: &[bool]) -> Vec<u8> {
-    let (head, packets) = pack.split_at(HEAD);
-    let packets = packets.chunks(3 + shape.w).zip(lost);
-    let heard: Vec<&[u8]> = packets
-        .filter_map(|(packet, &lost)| (!lost).then_some(packet))
-        .collect();
-    let count = (heard.len() as u32).to_le_bytes();
-    [&head[..HEAD - 4], &count, &heard.concat()].concat()
+fn heard(shape: Shape, pack: &[u8], lost: &[bool]) -> Result<AirPack, jibrufath::Error> {
+    let mut air = AirPack::new(shape)?;
+    for (packet, &lost) in packets(pack)?.zip(lost) {
+        if !lost {
+            air.push(packet)?;
+        }
+    }
+    Ok(air)
 }
 
 /// Receives what is heard of a pack, and compares the file that comes out with the one written.
@@ -109,14 +117,17 @@ fn play(
     lost: &[bool],
 ) -> Result<Scene, Box<dyn Error>> {
     let reception = receive(air)?;
-    let end = match reception.file {
-        Some(received) if received != file => return Err("another file came back".into()),
-        Some(_) => "the file is back, byte for byte",
-        None => "the file stays closed",
+    let end = match &reception {
+        Reception::File { file: received, .. } if received != file => {
+            return Err("another file came back".into());
+        }
+        Reception::File { .. } => "the file is back, byte for byte",
+        Reception::Left { .. } => "the file stays closed",
     };
+    let left: Vec<usize> = reception.left().collect();
     let cell = |(cell, &lost): (usize, &bool)| match lost {
         false => Cell::Received,
-        true if reception.left.contains(&cell) => Cell::Left,
+        true if left.contains(&cell) => Cell::Left,
         true => Cell::Filled,
     };
     let cells: Vec<Cell> = lost.iter().enumerate().map(cell).collect();

@@ -4,7 +4,7 @@ use mathlib.Core.Bool.{false≢true}
 use native.Mathlib.Omega.{arith}
 use borrow.Author.Needs.{needs}
 use borrow.Author.Tests.{not-true, not-false}
-use Rattle.cube.specs.Shapes.{linesOf}
+use Rattle.shape.specs.Shapes.{linesOf}
 use Rattle.cube.proofs.AxisRuns.{lines-small}
 use Rattle.cube.proofs.RightLines.{code-axis, axes-code, axis3-blocks}
 use Rattle.cube.proofs.checker.all_right.Statement.{statement}
@@ -38,7 +38,7 @@ returns-2 c =
       yes-when = λ h. c .lines-right .ensures .yes-when (code-axis _ _ 3 _ h);
       yes-then = λ e.
           let planes = c .before .before .before .planes-right .ensures .yes-then (not-false _ (c .before .before .if1 .left)) in
-          axes-code _ _ _ (pre .0) (pre .1) (planes .0) (planes .1) (c .lines-right .ensures .yes-then e);
+          axes-code _ _ _ (pre .0) (pre .1) (λ p. omega (arith, c .before .before .before .before .shared-slice-known .given p)) (planes .0) (planes .1) (c .lines-right .ensures .yes-then e);
     }
 
 pub all-right-spec : {M : Type 1} → statement M

@@ -7,24 +7,24 @@ use borrow.Author.Needs.{needs}
 use borrow.Author.Tests.{not-true, not-false}
 use Rattle.cube.proofs.AxisRuns.{Begins, begins, lines-ended, runFrom}
 use Rattle.cube.proofs.RightLines.{right-none, right-fewer, right-append, right-block, right-run, block-within}
-use Rattle.field.specs.Field.{reduction}
-use Rattle.cube.specs.Shapes.{strideOf}
-use Rattle.cube.specs.Check.{LinesRight}
+use Rattle.shape.specs.Shapes.{strideOf}
+use Rattle.shape.proofs.Valid.{line-told, line-refused}
+use Rattle.cube.specs.Inner.Checker.{LinesRight}
 use Rattle.cube.proofs.checker.lines_right.Statement.{statement}
 use Rattle.cube.proofs.checker.lines_right.Tie as tie
 
 abbrev Inv-loop : tie.InvT-loop
-Inv-loop cube sh axis from to w m₀ m = (m % strideOf sh axis ≡ 0) × (from ≤ m) × (m ≤ to) × LinesRight reduction sh axis from m cube
+Inv-loop cube reduction sh axis from to w m₀ m = (m % strideOf sh axis ≡ 0) × (from ≤ m) × (m ≤ to) × LinesRight reduction sh axis from m cube
 
 abbrev μ-loop : tie.MeasureT-loop
-μ-loop cube sh axis from to w m₀ m = to - m
+μ-loop cube reduction sh axis from to w m₀ m = to - m
 
 -- the line found begins a block
 line-here : (c : tie.After-struct-known Inv-loop μ-loop)
     → let a = c .before .before .before .before .before .before .before .before .args in
     Begins (a .sh) (a .axis) (c .before .before .before .before .before .before .loop .m) (c .before .before .found .given .0 .0)
 line-here c =
-    begins _ _ _ _ (sym (c .before .before .before .before .axis-line .ensures) ∙ c .before .before .found .given .1)
+    begins _ _ _ _ (line-told _ _ _ _ _ (c .before .before .before .before .axis-line .ensures) (c .before .before .found .given .1))
     (c .before .before .before .before .before .before .loop .inv .0)
 
 -- which ends where the lines asked for do, or before
@@ -51,17 +51,17 @@ enum-told c = search needs
 returns : tie.Need-returns Inv-loop μ-loop
 returns c =
     let pre = c .before .before .before .before .before .before .pre in
-    let ended = lines-ended _ _ _ _ (pre .0) (pre .2) (pre .3) (sym (c .before .before .axis-line .ensures) ∙ c .enum-told .given .1) in
+    let ended = lines-ended _ _ _ _ (pre .0) (pre .2) (pre .3) (line-refused _ _ _ _ _ (c .before .before .axis-line .ensures) (c .enum-told .given .1)) in
     absurd (omega (arith, ended, pre .4 .within, c .before .before .before .loop-test .taken))
 
-mul-t13 : tie.Need-mul-t13 Inv-loop μ-loop
-mul-t13 c = omega (arith, line-here c .first-small)
-
 mul-t14 : tie.Need-mul-t14 Inv-loop μ-loop
-mul-t14 c = omega (arith, line-here c .stride-small)
+mul-t14 c = omega (arith, line-here c .first-small)
 
 mul-t15 : tie.Need-mul-t15 Inv-loop μ-loop
 mul-t15 c = omega (arith, line-here c .stride-small)
+
+mul-t16 : tie.Need-mul-t16 Inv-loop μ-loop
+mul-t16 c = omega (arith, line-here c .stride-small)
 
 codewords-requires : tie.Need-codewords-requires Inv-loop μ-loop
 codewords-requires c κs = search needs
@@ -75,8 +75,11 @@ returns-2 c =
     record {
       yes-when = λ h.
           sym (not-true _ (c .if1 .taken))
-          ∙ c .before .codewords .ensures .yes-when (rw (pre .1) (here .inside))
-          (right-run _ _ _ _ _ _ here (right-fewer _ _ _ _ _ _ _ _ (at .loop .inv .1) (line-ends (c .before .before)) h) (pre .0 .w-low));
+          ∙ c .before .codewords .ensures .yes-when
+          (record {
+            inside = rw (pre .1) (here .inside);
+            lines = right-run _ _ _ _ _ _ here (right-fewer _ _ _ _ _ _ _ _ (at .loop .inv .1) (line-ends (c .before .before)) h) (pre .0 .w-low);
+          });
       yes-then = λ e. absurd (false≢true e);
     }
 
@@ -94,7 +97,7 @@ loop-again c =
       here .next-aligned,
       omega (arith, before .1),
       line-ends (c .before .before),
-      right-append _ _ _ _ _ _ _ (before .3) (right-block _ _ _ _ _ _ here (c .before .codewords .ensures .yes-then (not-false _ (c .if1 .left)))),
+      right-append _ _ _ _ _ _ _ (before .3) (right-block _ _ _ _ _ _ here (c .before .codewords .ensures .yes-then (not-false _ (c .if1 .left)) .lines)),
     )
 
 returns-3 : tie.Need-returns-3 Inv-loop μ-loop
@@ -115,9 +118,9 @@ lines-right-spec =
     enum-known-found
     enum-told
     returns
-    mul-t13
     mul-t14
     mul-t15
+    mul-t16
     codewords-requires
     returns-2
     add-m

@@ -7,17 +7,16 @@ use mathlib.Core.Bool.{false≢true}
 use borrow.Author.Tests.{not-true, not-false}
 use Rattle.cube.proofs.AxisRuns.{lines-small}
 use Rattle.cube.proofs.RightLines.{right-fewer, right-append, right-none, rows-blocks, columns-blocks}
-use Rattle.field.specs.Field.{reduction}
-use Rattle.cube.specs.Shapes.{linesOf}
-use Rattle.cube.specs.Check.{Blocks, LinesRight}
+use Rattle.shape.specs.Shapes.{linesOf}
+use Rattle.cube.specs.Inner.Checker.{Blocks, LinesRight}
 use Rattle.cube.proofs.checker.planes_right.Statement.{statement}
 use Rattle.cube.proofs.checker.planes_right.Tie as tie
 
 abbrev Inv-loop : tie.InvT-loop
-Inv-loop cube sh l1 l2 l3 c₀ c = (c ≤ l3) × LinesRight reduction sh 1 0 (c * l2) cube × LinesRight reduction sh 2 0 (c * l1) cube
+Inv-loop cube reduction sh l1 l2 l3 c₀ c = (c ≤ l3) × LinesRight reduction sh 1 0 (c * l2) cube × LinesRight reduction sh 2 0 (c * l1) cube
 
 abbrev μ-loop : tie.MeasureT-loop
-μ-loop cube sh l1 l2 l3 c₀ c = l3 - c
+μ-loop cube reduction sh l1 l2 l3 c₀ c = l3 - c
 
 abbrev start : tie.In-loop Inv-loop μ-loop → tie.Start Inv-loop μ-loop
 start c = c .before .before .before

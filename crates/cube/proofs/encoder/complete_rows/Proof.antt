@@ -4,9 +4,7 @@ use Prim.Native.Nat.{_+_, _*_, _-_, _≤_}
 use native.Mathlib.Omega.{arith}
 use lib.ListN.{length}
 use Rattle.span.proofs.Stretches.{stretch-end}
-use Rattle.field.specs.Field.{reduction}
-use Rattle.field.proofs.Primitive.{primitive}
-use Rattle.cube.specs.Plane.{RowsCompleted}
+use Rattle.cube.specs.Inner.Encoder.{RowsCompleted}
 use Rattle.cube.proofs.Bytes.{Small, small, rows-in-plane}
 use Rattle.cube.proofs.Completing.{rowRun, row-inside, outcome-solved}
 use Rattle.cube.proofs.Planes.{rows-completed-none, rows-completed-more}
@@ -14,11 +12,11 @@ use Rattle.cube.proofs.encoder.complete_rows.Statement.{statement}
 use Rattle.cube.proofs.encoder.complete_rows.Tie as tie
 
 abbrev Inv-loop : tie.InvT-loop
-Inv-loop plane₀ w l1 row rows e b₀ plane b =
+Inv-loop plane₀ reduction w l1 row rows e b₀ plane b =
     (b ≤ rows) × (length plane ≡ length plane₀) × RowsCompleted reduction l1 w b plane₀ plane
 
 abbrev μ-loop : tie.MeasureT-loop
-μ-loop plane₀ w l1 row rows e b₀ plane b = rows - b
+μ-loop plane₀ reduction w l1 row rows e b₀ plane b = rows - b
 
 sizes : (s : tie.Start Inv-loop μ-loop) → Small (s .args .sh)
 sizes s = small (s .args .sh) (s .pre .0)
@@ -54,8 +52,8 @@ inside c =
     let sh = start c .args .sh in
     omega (arith, stretch-end (c .before .loop .b) (sh .l2) (sh .l1 * sh .w) (c .loop-test .taken), rows-in-plane (sh .l1) (sh .l2) (sh .w))
 
-mul-t15 : tie.Need-mul-t15 Inv-loop μ-loop
-mul-t15 c = omega (arith, inside c)
+mul-t16 : tie.Need-mul-t16 Inv-loop μ-loop
+mul-t16 c = omega (arith, inside c)
 
 solve-requires : tie.Need-solve-requires Inv-loop μ-loop
 solve-requires c κs = tt
@@ -76,7 +74,7 @@ loop-again c =
     let row = row-inside (sh .l1) (sh .w) (l .before .loop .b) (length (l .before .loop .plane)) (omega arith) (v .l1-high) (inside l) in (
       omega arith,
       omega arith,
-      rows-completed-more _ (sh .l1) (sh .w) (l .before .loop .b) _ _ _ primitive (omega arith) (l .before .loop .inv .2) row
+      rows-completed-more _ (sh .l1) (sh .w) (l .before .loop .b) _ _ _ (start l .pre .2) (omega arith) (l .before .loop .inv .2) row
           (outcome-solved _ _ (sh .l1 - 2) (sh .l1 - 1) _ _ _ (rw (l .before .before .erasures-at .ensures) at (solved .solve .ensures)) row (omega arith) (omega arith)),
     )
 
@@ -101,7 +99,7 @@ complete-rows-spec =
     cast-erasures-at-2
     erasures-at-requires
     loop-holds
-    mul-t15
+    mul-t16
     solve-requires
     add-b
     loop-less

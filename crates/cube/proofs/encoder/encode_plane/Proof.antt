@@ -3,7 +3,6 @@ use Prim.Native.Nat.{_-_}
 use native.Mathlib.Omega.{arith}
 use borrow.Author.Needs.{needs}
 use lib.ListN.{length}
-use Rattle.field.proofs.Primitive.{primitive}
 use Rattle.cube.proofs.Bytes.{Small, small}
 use Rattle.cube.proofs.Completing.{columnsRun, columns-inside, outcome-solved}
 use Rattle.cube.proofs.Planes.{plane-code}
@@ -55,7 +54,7 @@ returns c =
     let sh = start .args .sh in
     let v = start .pre .0 in
     let inside = columns-inside (sh .l1) (sh .l2) (sh .w) (length (start .args .plane .now)) (omega arith) (v .l2-high) (omega arith) in
-    plane-code _ primitive sh v _ _ _ (λ p. omega (arith, c .slice-known3 .given p)) inside
+    plane-code _ (start .pre .2) sh v _ _ _ (λ p. omega (arith, c .slice-known3 .given p)) inside
     (outcome-solved _ _ (sh .l2 - 2) (sh .l2 - 1) _ _ _ (rw (solved .before .erasures-at .ensures) at (solved .solve .ensures)) inside (omega arith)
     (omega arith))
     (completed .complete-rows .ensures)

@@ -3,8 +3,7 @@ use mathlib.Core.Path.{_≡_, refl, _∙_}
 use Prim.Native.Nat.{_+_, _*_, _-_, _≤_}
 use native.Mathlib.Omega.{arith}
 use lib.ListN.{length}
-use Rattle.field.specs.Field.{reduction}
-use Rattle.cube.specs.Plane.{planeBytes, PlanesCoded}
+use Rattle.cube.specs.Inner.Encoder.{planeBytes, PlanesCoded}
 use Rattle.cube.proofs.Bytes.{Small, small, plane-inside}
 use Rattle.cube.proofs.Lending.{lent-length}
 use Rattle.cube.proofs.Planes.{planes-coded-none, planes-coded-more}
@@ -12,11 +11,11 @@ use Rattle.cube.proofs.encoder.encode_planes.Statement.{statement}
 use Rattle.cube.proofs.encoder.encode_planes.Tie as tie
 
 abbrev Inv-loop : tie.InvT-loop
-Inv-loop cube₀ sh plane planes c₀ cube c =
+Inv-loop cube₀ reduction sh plane planes c₀ cube c =
     (c ≤ planes) × (length cube ≡ length cube₀) × PlanesCoded reduction sh c cube₀ cube
 
 abbrev μ-loop : tie.MeasureT-loop
-μ-loop cube₀ sh plane planes c₀ cube c = planes - c
+μ-loop cube₀ reduction sh plane planes c₀ cube c = planes - c
 
 sizes : (s : tie.Start Inv-loop μ-loop) → Small (s .args .sh)
 sizes s = small (s .args .sh) (s .pre .0)
@@ -54,7 +53,7 @@ part-encode-plane-end : tie.Need-part-encode-plane-end Inv-loop μ-loop
 part-encode-plane-end c = omega (arith, inside c)
 
 encode-plane-requires : tie.Need-encode-plane-requires Inv-loop μ-loop
-encode-plane-requires c κs = (start (c .before) .pre .0, lent-length _ _ _ (inside (c .before)))
+encode-plane-requires c κs = (start (c .before) .pre .0, lent-length _ _ _ (inside (c .before)), start (c .before) .pre .2)
 
 add-c : tie.Need-add-c Inv-loop μ-loop
 add-c c = omega arith

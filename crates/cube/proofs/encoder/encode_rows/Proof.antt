@@ -4,9 +4,8 @@ use Prim.Native.Nat.{_*_, _-_, _≤_}
 use native.Mathlib.Omega.{arith}
 use lib.ListN.{length}
 use Rattle.span.proofs.Stretches.{stretch-end}
-use Rattle.cube.specs.Shapes.{cells}
-use Rattle.field.specs.Field.{reduction}
-use Rattle.cube.specs.Plane.{planeBytes, partBytes, RowsEncoded}
+use Rattle.shape.specs.Shapes.{cells}
+use Rattle.cube.specs.Inner.Encoder.{planeBytes, partBytes, RowsEncoded}
 use Rattle.cube.proofs.Bytes.{Small, small, rows-in-plane}
 use Rattle.cube.proofs.Completing.{acrossRun}
 use Rattle.cube.proofs.Encoding.{rowsFrom, rowsTo, rows-to-inside, rows-fed, rows-encoded-none, rows-encoded-more}
@@ -14,11 +13,11 @@ use Rattle.cube.proofs.encoder.encode_rows.Statement.{statement}
 use Rattle.cube.proofs.encoder.encode_rows.Tie as tie
 
 abbrev Inv-loop : tie.InvT-loop
-Inv-loop «data» cube₀ l1 l2 l3 w row width rows b₀ cube b =
+Inv-loop «data» cube₀ reduction l1 l2 l3 w row width rows b₀ cube b =
     (b ≤ rows) × (length cube ≡ length cube₀) × RowsEncoded reduction (record { l1 = l1; l2 = l2; l3 = l3; w = w }) b «data» cube
 
 abbrev μ-loop : tie.MeasureT-loop
-μ-loop «data» cube₀ l1 l2 l3 w row width rows b₀ cube b = rows - b
+μ-loop «data» cube₀ reduction l1 l2 l3 w row width rows b₀ cube b = rows - b
 
 sizes : (s : tie.Start Inv-loop μ-loop) → Small (s .args .sh)
 sizes s = small (s .args .sh) (s .pre .0)
@@ -51,22 +50,22 @@ begins c =
     let plane = stretch-end (c .before .loop .b) (sh .l2) (sh .l1 * sh .w) (omega arith) in
     (omega (arith, rows-in-plane (sh .l1 - 2) (sh .l2 - 2) (sh .w)), omega (arith, rows-in-plane (sh .l1) (sh .l2) (sh .w)))
 
-mul-t16 : tie.Need-mul-t16 Inv-loop μ-loop
-mul-t16 c = omega (arith, begins c, sizes (start c))
-
 mul-t17 : tie.Need-mul-t17 Inv-loop μ-loop
-mul-t17 c =
-    let sh = start c .args .sh in
-    omega (arith, rows-in-plane (sh .l1 - 2) (sh .l2 - 2) (sh .w), sizes (start c))
-
-sub-t18 : tie.Need-sub-t18 Inv-loop μ-loop
-sub-t18 c = omega arith
-
-mul-t16-2 : tie.Need-mul-t16-2 Inv-loop μ-loop
-mul-t16-2 c = omega (arith, begins c, sizes (start c))
+mul-t17 c = omega (arith, begins c, sizes (start c))
 
 mul-t18 : tie.Need-mul-t18 Inv-loop μ-loop
 mul-t18 c =
+    let sh = start c .args .sh in
+    omega (arith, rows-in-plane (sh .l1 - 2) (sh .l2 - 2) (sh .w), sizes (start c))
+
+sub-t19 : tie.Need-sub-t19 Inv-loop μ-loop
+sub-t19 c = omega arith
+
+mul-t17-2 : tie.Need-mul-t17-2 Inv-loop μ-loop
+mul-t17-2 c = omega (arith, begins c, sizes (start c))
+
+mul-t19 : tie.Need-mul-t19 Inv-loop μ-loop
+mul-t19 c =
     let sh = start c .args .sh in
     omega (arith, rows-in-plane (sh .l1) (sh .l2) (sh .w), sizes (start c))
 
@@ -93,7 +92,7 @@ loop-again c =
     let inside = rw (← size) at (rows-to-inside sh (l .before .loop .b) v less) in (
       omega arith,
       omega arith,
-      rows-encoded-more _ sh (l .before .loop .b) _ _ _ less (outcome .written (outcome .yes-when inside fed)) (l .before .loop .inv .2),
+      rows-encoded-more _ sh (l .before .loop .b) _ _ _ less (start l .pre .3) (inside .few-places) fed (outcome .done (inside, fed) .1) (l .before .loop .inv .2),
     )
 
 same-length : tie.Need-same-length Inv-loop μ-loop
@@ -115,11 +114,11 @@ encode-rows-spec =
     mul-width
     sub-rows
     loop-holds
-    mul-t16
     mul-t17
-    sub-t18
-    mul-t16-2
     mul-t18
+    sub-t19
+    mul-t17-2
+    mul-t19
     encode-requires
     add-b
     loop-less

@@ -4,11 +4,12 @@ use mathlib.Core.List.{List}
 use mathlib.Core.Logic.{⊎-elim}
 use Prim.Native.Nat.{ℕ, _+_, _-_, _*_, _≤_}
 use native.Mathlib.Omega.{arith}
+use borrow.Author.Needs.{needs}
 use borrow.Author.Tests.{eq-eqb, ne-eqb}
 use lib.ListN.{length}
 use denote.Ref.{now}
-use Rattle.cube.specs.Shapes.{cells}
-use Rattle.cube.specs.Flags.{missing}
+use Rattle.shape.specs.Shapes.{cells}
+use Rattle.shape.specs.Flags.{missing}
 use Rattle.fill.proofs.Clearing.{cell-room, ClearedTo, cleared-none, cleared-skip, cleared-more, cleared-all}
 use Rattle.fill.proofs.cells.clear_missing.Statement.{statement}
 use Rattle.fill.proofs.cells.clear_missing.Tie as tie
@@ -21,7 +22,7 @@ abbrev μ-loop : tie.MeasureT-loop
 μ-loop cube₀ flags w n₀ cube n = length flags - n
 
 room :
-    (c : tie.After-clear-cell-arg Inv-loop μ-loop) →
+    (c : tie.After-set-arg Inv-loop μ-loop) →
     c .before .before .before .before .loop .n * c .before .before .before .before .before .before .before .args .sh .w
     + c .before .before .before .before .before .before .before .args .sh .w
     ≤ length (now (c .before .before .before .before .before .before .before .args .cube))
@@ -33,11 +34,11 @@ loop-holds c = (omega arith, cleared-none _ _ _)
 shared-slice-read-if1 : tie.Need-shared-slice-read-if1 Inv-loop μ-loop
 shared-slice-read-if1 c = omega arith
 
-mul-clear-cell : tie.Need-mul-clear-cell Inv-loop μ-loop
-mul-clear-cell c = omega (arith, room c)
+mul-set : tie.Need-mul-set Inv-loop μ-loop
+mul-set c = omega (arith, room c)
 
-clear-cell-requires : tie.Need-clear-cell-requires Inv-loop μ-loop
-clear-cell-requires c κs = omega (arith, room c, c .before .before .before .before .loop .inv .1 .size)
+set-requires : tie.Need-set-requires Inv-loop μ-loop
+set-requires c κs = search needs
 
 add-n : tie.Need-add-n Inv-loop μ-loop
 add-n c = omega arith
@@ -52,7 +53,7 @@ loop-again c = (
   ⊎-elim
       (λ w.
       subst (λ (y : List ℕ). ClearedTo _ _ _ _ y) (sym (w .5))
-      (cleared-more _ _ _ _ _ _ (c .before .before .before .loop .inv .1) (eq-eqb _ _ (w .0 .taken)) (w .2 .ensures)))
+      (cleared-more _ _ _ _ _ _ (c .before .before .before .loop .inv .1) (eq-eqb _ _ (w .0 .taken)) (w .2 .ensures .done (omega (arith, cell-room _ _ _ (c .before .before .before .before .before .before .pre) (c .before .before .before .loop .n) (omega arith), c .before .before .before .loop .inv .1 .size)) .1)))
       (λ w.
       rw (w .1)
       (cleared-skip _ _ _ _ _ (c .before .before .before .loop .inv .1) (ne-eqb _ _ (w .0 .left))))
@@ -73,8 +74,8 @@ clear-missing-spec =
     μ-loop
     loop-holds
     shared-slice-read-if1
-    mul-clear-cell
-    clear-cell-requires
+    mul-set
+    set-requires
     add-n
     loop-less
     loop-again

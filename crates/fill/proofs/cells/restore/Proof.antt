@@ -3,11 +3,12 @@ use mathlib.Core.Path.{_≡_, sym, _∙_}
 use mathlib.Core.Logic.{⊎-elim}
 use Prim.Native.Nat.{_+_, _-_, _*_, _≤_}
 use native.Mathlib.Omega.{arith}
+use borrow.Author.Needs.{needs}
 use borrow.Author.Tests.{eq-eqb, ne-eqb}
 use lib.ListN.{length}
 use denote.Ref.{now}
-use Rattle.cube.specs.Shapes.{cells}
-use Rattle.fill.specs.State.{filled}
+use Rattle.shape.specs.Shapes.{cells}
+use Rattle.fill.specs.Inner.Cells.{filled}
 use Rattle.fill.proofs.Clearing.{cell-room, ClearedTo, cleared-none, cleared-skip, cleared-more, cleared-all}
 use Rattle.fill.proofs.Marks.{RemarkedTo, remarked-none, remarked-flag, remarked-skip, remarked-more, remarked-all}
 use Rattle.fill.proofs.cells.restore.Statement.{statement}
@@ -21,7 +22,7 @@ abbrev μ-loop : tie.MeasureT-loop
 μ-loop cube₀ flags₀ w n₀ cube flags n = length flags₀ - n
 
 room :
-    (c : tie.After-clear-cell-arg Inv-loop μ-loop) →
+    (c : tie.After-set-arg Inv-loop μ-loop) →
     c .before .before .before .before .loop .n * c .before .before .before .before .before .before .before .args .sh .w
     + c .before .before .before .before .before .before .before .args .sh .w
     ≤ length (now (c .before .before .before .before .before .before .before .args .cube))
@@ -42,11 +43,11 @@ slice-read-if1 c = omega arith
 slice-write-flags : tie.Need-slice-write-flags Inv-loop μ-loop
 slice-write-flags c = omega arith
 
-mul-clear-cell : tie.Need-mul-clear-cell Inv-loop μ-loop
-mul-clear-cell c = omega (arith, room c)
+mul-set : tie.Need-mul-set Inv-loop μ-loop
+mul-set c = omega (arith, room c)
 
-clear-cell-requires : tie.Need-clear-cell-requires Inv-loop μ-loop
-clear-cell-requires c κs = omega (arith, room c, c .before .before .before .before .loop .inv .2 .size)
+set-requires : tie.Need-set-requires Inv-loop μ-loop
+set-requires c κs = search needs
 
 add-n : tie.Need-add-n Inv-loop μ-loop
 add-n c = omega arith
@@ -64,7 +65,7 @@ loop-again c = (
   ⊎-elim
       (λ w.
       rw (w .5)
-      (cleared-more _ _ _ _ _ _ (c .before .before .before .loop .inv .2) (was-filled c ∙ eq-eqb _ _ (w .0 .taken)) (w .2 .ensures)))
+      (cleared-more _ _ _ _ _ _ (c .before .before .before .loop .inv .2) (was-filled c ∙ eq-eqb _ _ (w .0 .taken)) (w .2 .ensures .done (omega (arith, cell-room _ _ _ (c .before .before .before .before .before .before .pre) (c .before .before .before .loop .n) (omega arith), c .before .before .before .loop .inv .2 .size)) .1)))
       (λ w. rw (w .1) (cleared-skip _ _ _ _ _ (c .before .before .before .loop .inv .2) (was-filled c ∙ ne-eqb _ _ (w .0 .left)))) (c .if1 .came),
 )
 
@@ -89,8 +90,8 @@ restore-spec =
     loop-holds
     slice-read-if1
     slice-write-flags
-    mul-clear-cell
-    clear-cell-requires
+    mul-set
+    set-requires
     add-n
     loop-less
     loop-again

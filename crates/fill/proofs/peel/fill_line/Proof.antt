@@ -7,7 +7,8 @@ use borrow.Author.Needs.{needs}
 use borrow.Author.Tests.{ltb-true, ltb-false}
 use denote.Ref.{now}
 use lib.ListN.{length, length-set}
-use Rattle.fill.specs.State.{Places}
+use Rattle.field.proofs.Primitive.{primitive}
+use Rattle.fill.specs.Inner.Peel.{Places}
 use Rattle.cube.proofs.Completing.{outcome-solved}
 use Rattle.fill.proofs.Lines.{line-places, first-room, stride-room, run-inside}
 use Rattle.fill.proofs.Reaching.{line-idle, line-filled}
@@ -50,7 +51,7 @@ same-length c = search needs
 
 returns : tie.Need-returns
 returns c =
-    line-idle _ _ _ _ _ _
+    line-idle _ _ _ _ _ _ _
     (⊎-elim (λ w. inl (sym (c .before .scan .ensures .number) ∙ w .taken))
     (λ w. inr (omega (arith, c .before .scan .ensures .number, ltb-true 2 (c .before .scan .result .count) (w .1 .taken)))) (c .if1 .came))
 
@@ -59,6 +60,9 @@ mul-flags c = omega (arith, first-room _ _ _ (start c .pre .0) _ _ _ (start c .p
 
 mul-flags-2 : tie.Need-mul-flags-2
 mul-flags-2 c = omega (arith, stride-room _ _ _ (start c .pre .0) _ _ _ (start c .pre .1))
+
+reduction-requires : tie.Need-reduction-requires
+reduction-requires c κs = search needs
 
 cast-erasures-at : tie.Need-cast-erasures-at
 cast-erasures-at c = omega (arith, ordered (c .before), below (c .before), places (c .before) .few)
@@ -73,22 +77,22 @@ solve-requires : tie.Need-solve-requires
 solve-requires c κs = search needs
 
 mul-flags-3 : tie.Need-mul-flags-3
-mul-flags-3 c = omega (arith, first-cell (c .before .before .before .before .before))
+mul-flags-3 c = omega (arith, first-cell (c .before .before .before .before .before .before))
 
 add-flags : tie.Need-add-flags
-add-flags c = omega (arith, first-cell (c .before .before .before .before .before))
+add-flags c = omega (arith, first-cell (c .before .before .before .before .before .before))
 
 slice-write-flags : tie.Need-slice-write-flags
-slice-write-flags c = first-cell (c .before .before .before .before .before)
+slice-write-flags c = first-cell (c .before .before .before .before .before .before)
 
 mul-flags-4 : tie.Need-mul-flags-4
-mul-flags-4 c = omega (arith, last-cell (c .before .before .before .before .before))
+mul-flags-4 c = omega (arith, last-cell (c .before .before .before .before .before .before))
 
 add-flags-2 : tie.Need-add-flags-2
-add-flags-2 c = omega (arith, last-cell (c .before .before .before .before .before))
+add-flags-2 c = omega (arith, last-cell (c .before .before .before .before .before .before))
 
 slice-write-flags-2 : tie.Need-slice-write-flags-2
-slice-write-flags-2 c = simp length-set (last-cell (c .before .before .before .before .before))
+slice-write-flags-2 c = simp length-set (last-cell (c .before .before .before .before .before .before))
 
 same-length-2 : tie.Need-same-length-2
 same-length-2 c = search needs
@@ -99,12 +103,12 @@ same-length-3 c = search needs
 returns-2 : tie.Need-returns-2
 returns-2 c =
     let solved = c .before .before in
-    let l = solved .before .before .before in
+    let l = solved .before .before .before .before in
     let sized = start l .pre .0 in
     let line = start l .pre .1 in
-    line-filled _ _ _ _ sized (λ p. omega (arith, l .before .before .before .before .before .slice-known .given p)) _ _ _ _ _ _ line
+    line-filled _ primitive _ _ _ _ sized (λ p. omega (arith, l .before .before .before .before .before .slice-known .given p)) _ _ _ _ _ _ line
     (l .before .before .scan .ensures) (some l) (few l)
-    (outcome-solved _ _ _ _ _ _ _ (rw (solved .before .erasures-at .ensures) at (solved .solve .ensures)) (run-inside _ _ _ sized _ _ _ line)
+    (outcome-solved _ _ _ _ _ _ _ (rw (solved .before .before .erasures-at .ensures, solved .before .before .before .reduction .ensures) at (solved .solve .ensures)) (run-inside _ _ _ sized _ _ _ line)
     (ordered l) (below l))
 
 pub fill-line-spec : {M : Type 1} → statement M
@@ -116,6 +120,7 @@ fill-line-spec =
     returns
     mul-flags
     mul-flags-2
+    reduction-requires
     cast-erasures-at
     cast-erasures-at-2
     erasures-at-requires

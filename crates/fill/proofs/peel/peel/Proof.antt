@@ -4,17 +4,18 @@ use mathlib.Core.Path.{_≡_}
 use mathlib.Core.Logic.{_≢_, _⊎_, inl, inr, ⊎-elim}
 use Prim.Native.Nat.{_+_, _-_, _*_, _≤_}
 use native.Mathlib.Omega.{arith}
-use Rattle.cube.specs.Shapes.{cells}
+use Rattle.shape.specs.Shapes.{cells}
 use Rattle.stopping.specs.Stopping.{number}
-use Rattle.cube.specs.Flags.{missing}
-use Rattle.fill.specs.State.{Reaches}
+use Rattle.shape.specs.Flags.{missing}
+use Rattle.field.specs.Field.{reduction}
+use Rattle.fill.specs.Inner.Peel.{Reaches}
 use Rattle.fill.proofs.Reaching.{reaches-refl, reaches-trans, reaches-sized, Idle, idle-none, turn-idle, turn-bound, turn-less, axes-peeled}
 use Rattle.fill.proofs.peel.peel.Statement.{statement}
 use Rattle.fill.proofs.peel.peel.Tie as tie
 
 abbrev Inv-loop : tie.InvT-loop
 Inv-loop cube₀ flags₀ sh axis₀ idle₀ cube flags axis idle =
-    (1 ≤ axis) × (axis ≤ 3) × (idle ≤ 3) × Reaches sh cube₀ flags₀ cube flags × Idle sh flags axis idle
+    (1 ≤ axis) × (axis ≤ 3) × (idle ≤ 3) × Reaches reduction sh cube₀ flags₀ cube flags × Idle sh flags axis idle
 
 abbrev μ-loop : tie.MeasureT-loop
 μ-loop cube₀ flags₀ sh axis₀ idle₀ cube flags axis idle = number (missing flags) (cells sh) * 4 + (3 - idle)
@@ -25,7 +26,7 @@ turn :
 turn c = ⊎-elim (λ w. inl (w .0 .taken, w .1)) (λ w. inr (w .0 .left, w .1)) (c .if1 .came)
 
 loop-holds : tie.Need-loop-holds Inv-loop μ-loop
-loop-holds c = (omega arith, omega arith, omega arith, reaches-refl _ _ _, idle-none _ _ _)
+loop-holds c = (omega arith, omega arith, omega arith, reaches-refl _ _ _ _, idle-none _ _ _)
 
 sweep-requires : tie.Need-sweep-requires Inv-loop μ-loop
 sweep-requires c κs = (reaches-sized (c .before .before .before .before .before .before .pre) (c .before .before .before .loop .inv .3), (c .before .before .before .loop .inv .0, c .before .before .before .loop .inv .1))

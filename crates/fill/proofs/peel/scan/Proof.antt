@@ -4,8 +4,8 @@ use mathlib.Core.Logic.{⊎-elim}
 use Prim.Native.Nat.{_-_, _≤_}
 use native.Mathlib.Omega.{arith}
 use borrow.Author.Tests.{eq-eqb, ne-eqb}
-use Rattle.cube.specs.Flags.{missing}
-use Rattle.fill.specs.State.{Scanned}
+use Rattle.shape.specs.Flags.{missing}
+use Rattle.fill.specs.Inner.Peel.{Scanned}
 use Rattle.fill.proofs.Scanning.{scanned-none, scanned-skip, scanned-first, scanned-next}
 use Rattle.fill.proofs.peel.scan.Statement.{statement}
 use Rattle.fill.proofs.peel.scan.Tie as tie

@@ -1,21 +1,23 @@
 -- `fill::verify::verify_axis` tells whether every line of an axis without a missing cell is a codeword in every layer.
-use mathlib.Core.Path.{_≡_, sym, _∙_}
-use mathlib.Core.Bool.{true≢false}
+use mathlib.Core.Path.{_≡_}
 use Prim.Native.Nat.{_-_, _≤_, _<_}
 use native.Mathlib.Omega.{arith}
 use borrow.Author.Needs.{needs}
-use borrow.Author.Tests.{not-true, not-false}
-use Rattle.cube.specs.declared.LineAnswer.the-variants.{Found}
-use Rattle.cube.specs.Shapes.{linesOf, lineOf}
-use Rattle.cube.proofs.Geometry.{line-found}
-use Rattle.fill.specs.State.{Right, AxisRight}
-use Rattle.fill.proofs.Lines.{line-found-lt, lines-le, Below, below-none, below-next, below-all}
+use Rattle.answer.specs.Values.{passes}
+use Rattle.shape.specs.Shapes.{linesOf, lineOf}
+use Rattle.shape.proofs.Valid.{line-told}
+use Rattle.shape.proofs.Geometry.{line-found, axis-line-found, line-passed}
+use Rattle.field.specs.Field.{reduction}
+use Rattle.fill.specs.Inner.Verify.{Right, AxisRight}
+use Rattle.span.proofs.Decision.{decides-yes, decides-no, decides-refuted, decides-proved}
+use Rattle.cube.proofs.AxisRuns.{lines-small}
+use Rattle.fill.proofs.Lines.{Below, below-none, below-next, below-all}
 use Rattle.fill.proofs.verify.verify_axis.Statement.{statement}
 use Rattle.fill.proofs.verify.verify_axis.Tie as tie
 
 abbrev Inv-loop : tie.InvT-loop
 Inv-loop cube flags sh axis m₀ m =
-    (m ≤ linesOf sh axis) × Below sh axis (λ l. Right sh cube flags (l .first) (l .stride) (l .len)) m
+    (m ≤ linesOf sh axis) × Below sh axis (Right reduction sh cube flags) m
 
 abbrev μ-loop : tie.MeasureT-loop
 μ-loop cube flags sh axis m₀ m = linesOf sh axis - m
@@ -23,16 +25,14 @@ abbrev μ-loop : tie.MeasureT-loop
 found :
     (c : tie.After-known-told Inv-loop μ-loop) →
     lineOf (c .before .before .before .before .before .before .before .args .sh) (c .before .before .before .before .before .before .before .args .axis)
-    (c .before .before .before .before .loop .m) ≡ Found (c .before .found .given .0 .0)
-found c = sym (c .before .before .before .axis-line .ensures) ∙ c .before .found .given .1
+    (c .before .before .before .before .loop .m) ≡ passes (c .before .found .given .0 .0)
+found c = line-told _ _ _ _ _ (c .before .before .before .axis-line .ensures) (c .before .found .given .1)
 
 found-lt :
     (c : tie.After-known-told Inv-loop μ-loop) →
     c .before .before .before .before .loop .m <
     linesOf (c .before .before .before .before .before .before .before .args .sh) (c .before .before .before .before .before .before .before .args .axis)
-found-lt c =
-    line-found-lt _ _ _ _ (c .before .before .before .before .before .before .before .pre .0 .valid)
-    (c .before .before .before .before .before .before .before .pre .1 .0) (c .before .before .before .before .before .before .before .pre .1 .1) (found c)
+found-lt c = line-passed _ _ _ _ (found c) .3
 
 loop-holds : tie.Need-loop-holds Inv-loop μ-loop
 loop-holds c = (omega arith, below-none _ _ _)
@@ -49,14 +49,10 @@ enum-told c = search needs
 returns : tie.Need-returns Inv-loop μ-loop
 unfolding AxisRight
 returns c =
-    record {
-      yes-then = λ e.
-          below-all _ _ _ _ _ (c .before .before .before .before .before .before .pre .0 .valid)
-          (c .before .before .before .before .before .before .pre .1 .0) (c .before .before .before .before .before .before .pre .1 .1)
-          (c .before .before .before .loop .inv .1)
-          (sym (c .before .before .axis-line .ensures) ∙ c .enum-told .given .1);
-      no-then = λ e. absurd (true≢false e);
-    }
+    let pre = c .before .before .before .before .before .before .pre in
+    decides-yes
+    (below-all _ _ _ _ _ _ (pre .0 .valid) (pre .1 .0) (pre .1 .1) (c .before .before .before .loop .inv .1)
+    (c .before .before .axis-line .ensures) (c .enum-told .given .1))
 
 verify-line-requires : tie.Need-verify-line-requires Inv-loop μ-loop
 verify-line-requires c κs = (c .before .before .before .before .before .before .before .pre .0, line-found _ _ _ _ (found c))
@@ -64,13 +60,11 @@ verify-line-requires c κs = (c .before .before .before .before .before .before 
 returns-2 : tie.Need-returns-2 Inv-loop μ-loop
 unfolding AxisRight
 returns-2 c =
-    record {
-      yes-then = λ e. absurd (true≢false (sym e));
-      no-then = λ e h. c .before .verify-line .ensures .no-then (not-true _ (c .if1 .taken)) (h _ _ (found (c .before .before)));
-    }
+    decides-no
+    (λ h. decides-refuted (c .before .verify-line .ensures) (c .if1 .taken) (h _ _ _ (axis-line-found _ _ _ _ (found (c .before .before)))))
 
 add-m : tie.Need-add-m Inv-loop μ-loop
-add-m c = omega (arith, lines-le _ (c .before .before .before .before .before .before .before .before .before .args .axis) (c .before .before .before .before .before .before .before .before .before .pre .0 .valid), found-lt (c .before .before))
+add-m c = omega (arith, lines-small _ (c .before .before .before .before .before .before .before .before .before .args .axis) (c .before .before .before .before .before .before .before .before .before .pre .0 .valid), found-lt (c .before .before))
 
 loop-less : tie.Need-loop-less Inv-loop μ-loop
 loop-less c = omega (arith, found-lt (c .before .before))
@@ -79,7 +73,7 @@ loop-again : tie.Need-loop-again Inv-loop μ-loop
 loop-again c = (
   omega (arith, found-lt (c .before .before)),
   below-next _ _ _ _ _ (c .before .before .before .before .before .before .loop .inv .1) (found (c .before .before))
-      (c .before .verify-line .ensures .yes-then (not-false _ (c .if1 .left))),
+      (decides-proved (c .before .verify-line .ensures) (c .if1 .left)),
 )
 
 pub verify-axis-spec : {M : Type 1} → statement M

@@ -11,7 +11,7 @@ scan-requires c κs = line-places _ _ _ (c .before .before .pre .0) _ _ _ (c .be
 returns : tie.Need-returns
 returns c =
     right-missing _ _ _ (c .before .before .before .before .before .pre .0) _ _ _ (c .before .before .before .before .before .pre .1)
-    (λ e. omega (arith, c .before .before .scan .ensures .number, c .if1 .taken))
+    _ (λ e. omega (arith, c .before .before .scan .ensures .number, c .if1 .taken))
 
 mul-t9 : tie.Need-mul-t9
 mul-t9 c = omega (arith, first-room _ _ _ (c .before .before .before .before .before .before .pre .0) _ _ _ (c .before .before .before .before .before .before .pre .1))
@@ -19,14 +19,17 @@ mul-t9 c = omega (arith, first-room _ _ _ (c .before .before .before .before .be
 mul-t10 : tie.Need-mul-t10
 mul-t10 c = omega (arith, stride-room _ _ _ (c .before .before .before .before .before .before .before .pre .0) _ _ _ (c .before .before .before .before .before .before .before .pre .1))
 
+reduction-requires : tie.Need-reduction-requires
+reduction-requires c κs = search needs
+
 codewords-requires : tie.Need-codewords-requires
 codewords-requires c κs = search needs
 
 returns-2 : tie.Need-returns-2
 returns-2 c =
-    right-codewords _ _ _ (c .before .before .before .before .before .before .before .before .pre .0) _ _ _ (c .before .before .before .before .before .before .before .before .pre .1)
-    (omega (arith, c .before .before .before .before .before .scan .ensures .number, c .before .before .before .if1 .left)) _ (c .codewords .ensures)
+    right-codewords _ _ _ (c .before .before .before .before .before .before .before .before .before .pre .0) _ _ _ (c .before .before .before .before .before .before .before .before .before .pre .1)
+    _ (omega (arith, c .before .before .before .before .before .before .scan .ensures .number, c .before .before .before .before .if1 .left)) _ (rw (c .before .reduction .ensures) at (c .codewords .ensures))
 
 pub verify-line-spec : {M : Type 1} → statement M
 verify-line-spec =
-    tie.close (tie.spec scan-requires returns mul-t9 mul-t10 codewords-requires returns-2)
+    tie.close (tie.spec scan-requires returns mul-t9 mul-t10 reduction-requires codewords-requires returns-2)

@@ -3,7 +3,7 @@ use Prim.Native.Nat.{ℕ, _-_, _≤_, _<_}
 use native.Mathlib.Omega.{arith}
 use Rattle.line.specs.Line.{Codeword}
 use Rattle.line.specs.Run.{lineAt}
-use Rattle.line.proofs.Decision.{decides-yes, decides-no, decides-refuted, decides-proved}
+use Rattle.span.proofs.Decision.{decides-yes, decides-no, decides-refuted, decides-proved}
 use Rattle.line.proofs.Geometry.{inside-first}
 use Rattle.line.proofs.Parts.{cover-inside, cover-first, codewords-block, codewords-more}
 use Rattle.line.proofs.block.codeword_blocks.Statement.{statement}

@@ -1,7 +1,7 @@
 -- `line::block::erased_to_end` decides whether every place from the earlier erasure on is erased.
 use native.Mathlib.Omega.{arith}
 use borrow.Author.Needs.{needs}
-use Rattle.line.proofs.Decision.{decides-no, decides-le}
+use Rattle.span.proofs.Decision.{decides-no, decides-le}
 use Rattle.line.proofs.block.erased_to_end.Statement.{statement}
 use Rattle.line.proofs.block.erased_to_end.Tie as tie
 

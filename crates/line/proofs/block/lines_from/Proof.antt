@@ -1,6 +1,6 @@
 -- `line::block::lines_from` gives neighbouring lines of a run.
 use mathlib.Core.Path.{refl}
-use Rattle.line.specs.Block.{part}
+use Rattle.line.specs.Inner.Block.{part}
 use borrow.Author.Needs.{needs}
 use Rattle.line.proofs.block.lines_from.Statement.{statement}
 use Rattle.line.proofs.block.lines_from.Tie as tie

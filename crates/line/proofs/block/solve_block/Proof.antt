@@ -15,7 +15,7 @@ first-places-requires c κs = search needs
 
 combine-requires : tie.Need-combine-requires
 combine-requires c κs =
-    let end = c .before .before .before .erased-to-end .ensures .then (c .before .before .if1 .taken) in (
+    let end = c .before .before .before .erased-to-end .ensures .yes-then (c .before .before .if1 .taken) in (
       places-inside (c .first-places .ensures) (end .some-place) (omega arith) (c .before .before .before .before .before .pre .0),
       places-width _ _ _ (c .first-places .ensures),
       c .before .before .before .before .before .pre .0,
@@ -28,17 +28,17 @@ same-length : tie.Need-same-length
 same-length c = search needs
 
 returns : tie.Need-returns
-returns c = combining-end (c .before .before .before .before .before .before .before .before .pre .2) (c .before .before .before .before .before .before .erased-to-end .ensures .then (c .before .before .before .before .before .if1 .taken)) (c .before .before .before .first-places .ensures) (c .before .before .combine .ensures)
+returns c = combining-end (c .before .before .before .before .before .before .before .before .pre .2) (c .before .before .before .before .before .before .erased-to-end .ensures .yes-then (c .before .before .before .before .before .if1 .taken)) (c .before .before .before .first-places .ensures) (c .before .before .combine .ensures)
 
 clear-requires : tie.Need-clear-requires
 clear-requires c κs = search needs
 
 clear-requires-2 : tie.Need-clear-requires-2
-clear-requires-2 c κs = (inside-size (c .before .before .before .before .before .before .before .before .pre .0) (c .before .before .before .clear .ensures .size), c .before .before .before .before .before .before .before .before .pre .3)
+clear-requires-2 c κs = (inside-size (c .before .before .before .before .before .before .before .before .pre .0) (c .before .before .before .clear .ensures .kept .size), c .before .before .before .before .before .before .before .before .pre .3)
 
 combine-requires-2 : tie.Need-combine-requires-2
 combine-requires-2 c κs =
-    let inside = inside-size (c .before .before .before .before .before .before .before .before .before .before .before .before .pre .0) (c .before .before .before .clear2 .ensures .size ∙ c .before .before .before .before .before .before .before .clear .ensures .size) in
+    let inside = inside-size (c .before .before .before .before .before .before .before .before .before .before .before .before .pre .0) (c .before .before .before .clear2 .ensures .kept .size ∙ c .before .before .before .before .before .before .before .clear .ensures .kept .size) in
     (inside, refl, inside, c .before .before .before .before .before .before .before .before .before .before .before .before .pre .1, c .before .before .before .before .before .before .before .before .before .before .before .before .pre .2, c .before .before .before .before .before .before .before .before .before .before .before .before .pre .3)
 
 same-length-2 : tie.Need-same-length-2

@@ -1,16 +1,16 @@
 -- `line::block::solve_blocks` writes both erasures of each line of a run, block by block.
 use Prim.Native.Nat.{_-_, _≤_}
 use native.Mathlib.Omega.{arith}
-use Rattle.line.specs.Block.{front}
+use Rattle.line.specs.Inner.Block.{front}
 use Rattle.line.proofs.Geometry.{inside-first}
 use Rattle.line.proofs.Parts.{Changed, changed-none, changed-over, changed-all, cover-inside, cover-place, cover-first, inside-size}
-use Rattle.line.proofs.Solving.{Erased, Filled, written-changed, changed-written, filled-again}
+use Rattle.line.proofs.Solving.{Erased, ErasuresFilled, written-changed, changed-written, filled-again}
 use Rattle.line.proofs.block.solve_blocks.Statement.{statement}
 use Rattle.line.proofs.block.solve_blocks.Tie as tie
 
 abbrev Inv-loop : tie.InvT-loop
 Inv-loop s₀ reduction run e width done₀ s done =
-    (done ≤ run .width) × Changed (Erased (e .j) (e .k)) (Filled reduction e) (front run done) s₀ s
+    (done ≤ run .width) × Changed (Erased (e .j) (e .k)) (ErasuresFilled reduction e) (front run done) s₀ s
 
 abbrev μ-loop : tie.MeasureT-loop
 μ-loop s₀ reduction run e width done₀ s done = run .width - done

@@ -11,7 +11,7 @@ same-length : tie.Need-same-length
 same-length c = search needs
 
 returns : tie.Need-returns
-returns c = corrected-codewords (c .before .codeword-block .ensures .then (c .if1 .taken))
+returns c = corrected-codewords (c .before .codeword-block .ensures .yes-then (c .if1 .taken))
 
 syndromes-requires : tie.Need-syndromes-requires
 syndromes-requires c κs = search needs

@@ -1,7 +1,7 @@
 -- `line::corrector::correct_blocks` corrects the lines of a run, block by block.
 use Prim.Native.Nat.{_-_, _≤_}
 use native.Mathlib.Omega.{arith}
-use Rattle.line.specs.Block.{front}
+use Rattle.line.specs.Inner.Block.{front}
 use Rattle.line.proofs.Geometry.{inside-first}
 use Rattle.line.proofs.Parts.{Changed, changed-none, changed-next, changed-all, block-cover, cover-inside, inside-size}
 use Rattle.line.proofs.Correction.{Below, Mended, corrected-changed, changed-corrected}
@@ -19,17 +19,16 @@ loop-holds : tie.Need-loop-holds Inv-loop μ-loop
 loop-holds c = (omega arith, changed-none _ _ _ _)
 
 block-after-requires : tie.Need-block-after-requires Inv-loop μ-loop
-block-after-requires c κs = omega (arith, inside-first _ _ (c .before .before .before .pre .1))
+block-after-requires c κs = omega (arith, inside-first _ _ (c .before .before .before .pre))
 
 correct-block-requires : tie.Need-correct-block-requires Inv-loop μ-loop
 correct-block-requires c κs = (
-  c .before .before .before .before .before .pre .0,
-  cover-inside _ _ _ _ (inside-size (c .before .before .before .before .before .pre .1) (c .before .before .before .loop .inv .1 .size)) (block-cover (c .before .block-after .ensures)),
+  cover-inside _ _ _ _ (inside-size (c .before .before .before .before .before .pre) (c .before .before .before .loop .inv .1 .size)) (block-cover (c .before .block-after .ensures)),
   c .before .block-after .ensures .few-lines,
 )
 
 add-done : tie.Need-add-done Inv-loop μ-loop
-add-done c = omega (arith, inside-first _ _ (c .before .before .before .before .before .before .before .before .before .pre .1), c .before .before .before .before .before .block-after .ensures .within)
+add-done c = omega (arith, inside-first _ _ (c .before .before .before .before .before .before .before .before .before .pre), c .before .before .before .before .before .block-after .ensures .within)
 
 loop-less : tie.Need-loop-less Inv-loop μ-loop
 loop-less c = omega (arith, c .before .before .before .before .before .block-after .ensures .within, c .before .before .before .before .before .block-after .ensures .some-line)
@@ -37,7 +36,7 @@ loop-less c = omega (arith, c .before .before .before .before .before .block-aft
 loop-again : tie.Need-loop-again Inv-loop μ-loop
 loop-again c = (
   c .before .before .before .before .before .block-after .ensures .within,
-  changed-next _ _ _ (c .before .before .before .before .before .before .before .before .before .pre .1) (c .before .before .before .before .before .block-after .ensures) (c .before .before .before .before .before .before .before .loop .inv .1) (corrected-changed (c .before .before .before .correct-block .ensures)),
+  changed-next _ _ _ (c .before .before .before .before .before .before .before .before .before .pre) (c .before .before .before .before .before .block-after .ensures) (c .before .before .before .before .before .before .before .loop .inv .1) (corrected-changed (c .before .before .before .correct-block .ensures)),
 )
 
 same-length : tie.Need-same-length Inv-loop μ-loop

@@ -4,9 +4,8 @@ use Prim.Native.Nat.{_+_, _*_, _≤_}
 use native.Mathlib.Omega.{arith}
 use lib.ListN.{length}
 use denote.Ref.{now}
-use Rattle.field.specs.Field.{add}
-use Rattle.line.specs.Line.{ErrorAt}
-use Rattle.line.specs.Run.{PlaceOutcome}
+use Rattle.line.specs.declared.Place.the-variants.{At}
+use Rattle.line.specs.Inner.Corrector.{PlaceOutcome}
 use Rattle.line.proofs.Correction.{corrected-nowhere, corrected-found}
 use borrow.Author.Needs.{needs}
 use Rattle.line.proofs.corrector.correct_line.Statement.{statement}
@@ -24,19 +23,19 @@ enum-told c = search needs
 -- the place that was found
 found :
     (c : tie.After-place) →
-    ErrorAt (c .before .before .before .before .args .reduction) (c .before .before .before .before .args .v0) (c .before .before .before .before .args .v1) (c .before .before .before .before .args .run .len) (c .place .given .0 .0)
-unfolding PlaceOutcome
+    PlaceOutcome (c .before .before .before .before .args .reduction) (c .before .before .before .before .args .v0) (c .before .before .before .before .args .v1) (c .before .before .before .before .args .run .len) (At (c .place .given .0 .0))
 found c = subst (PlaceOutcome _ _ _ _) (c .place .given .1) (c .before .before .error-place .ensures)
 
 strip :
     (c : tie.After-place) →
     c .before .before .before .before .args .run .first + c .before .before .before .before .args .run .stride * c .place .given .0 .0 + c .before .before .before .before .args .run .width ≤ length (now (c .before .before .before .before .args .s))
-strip c = c .before .before .before .before .pre .1 .fits (c .place .given .0 .0) (found c .below)
+unfolding PlaceOutcome
+strip c = c .before .before .before .before .pre .0 .fits (c .place .given .0 .0) (found c .0 .below)
 
 returns : tie.Need-returns
 unfolding PlaceOutcome
 returns c =
-    corrected-nowhere _ _ _ _ _ _ (c .before .before .before .before .pre .3) (c .before .before .before .before .pre .4)
+    corrected-nowhere _ _ _ _ _ _ (c .before .before .before .before .pre .2) (c .before .before .before .before .pre .3)
     (subst (PlaceOutcome _ _ _ _) (c .enum-told .given .1) (c .before .before .error-place .ensures))
 
 mul-p : tie.Need-mul-p
@@ -48,21 +47,24 @@ add-p c = omega (arith, strip (c .before .before .before))
 add-p-2 : tie.Need-add-p-2
 add-p-2 c = omega (arith, strip (c .before .before .before))
 
-slice-read-s : tie.Need-slice-read-s
-slice-read-s c = omega (arith, strip (c .before .before .before .before))
+slice-read-add : tie.Need-slice-read-add
+slice-read-add c = omega (arith, strip (c .before .before .before .before))
+
+add-requires : tie.Need-add-requires
+add-requires c κs = search needs
 
 slice-write-s : tie.Need-slice-write-s
-slice-write-s c = omega (arith, strip (c .before .before .before .before))
+slice-write-s c = omega (arith, strip (c .before .before .before .before .before))
 
 same-length : tie.Need-same-length
 same-length c = search needs
 
 returns-2 : tie.Need-returns-2
-unfolding add
+unfolding PlaceOutcome
 returns-2 c =
-    let start = c .before .before .before .before .before .before .before .before in
-    corrected-found _ _ _ _ _ _ (start .pre .3) (start .pre .4) _ (start .pre .0) (start .pre .1) (start .pre .2)
-    (λ p. c .before .before .before .before .before .before .before .slice-known .given p .fits) (found (c .before .before .before .before))
+    let start = c .before .before .before .before .before .before .before .before .before in
+    corrected-found _ _ _ _ _ _ (start .pre .2) (start .pre .3) _ _ (start .pre .0) (start .pre .1) (found (c .before .before .before .before .before))
+    (c .add .ensures)
 
 pub correct-line-spec : {M : Type 1} → statement M
 correct-line-spec =
@@ -75,7 +77,8 @@ correct-line-spec =
     mul-p
     add-p
     add-p-2
-    slice-read-s
+    slice-read-add
+    add-requires
     slice-write-s
     same-length
     returns-2)

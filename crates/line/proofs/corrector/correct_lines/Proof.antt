@@ -3,7 +3,7 @@ use mathlib.Core.Path.{sym, ap, _∙_}
 use Prim.Native.Nat.{ℕ, _-_, _≤_}
 use native.Mathlib.Omega.{arith}
 use Rattle.line.specs.Line.{syndrome0, syndrome1}
-use Rattle.line.specs.Block.{front}
+use Rattle.line.specs.Inner.Block.{front}
 use Rattle.line.proofs.Parts.{Changed, changed-none, changed-more, changed-all, line-later, inside-size}
 use Rattle.line.proofs.Correction.{Below, Mended, corrected-changed, changed-corrected}
 use Rattle.line.proofs.corrector.correct_lines.Statement.{statement}
@@ -28,12 +28,11 @@ element-copy-out-correct-line-2 c = omega arith
 correct-line-requires : tie.Need-correct-line-requires Inv-loop μ-loop
 correct-line-requires c κs =
     let start = c .before .before .before .before .before .before in
-    let line = line-later _ _ _ _ (c .before .before .before .before .loop .inv .1) (omega (arith, start .pre .1 .apart)) (c .before .before .before .before .loop .t) (omega arith) (omega (arith, start .pre .1 .apart)) in (
-      start .pre .0,
-      inside-size (start .pre .1) (c .before .before .before .before .loop .inv .1 .size),
+    let line = line-later _ _ _ _ (c .before .before .before .before .loop .inv .1) (omega (arith, start .pre .0 .apart)) (c .before .before .before .before .loop .t) (omega arith) (omega (arith, start .pre .0 .apart)) in (
+      inside-size (start .pre .0) (c .before .before .before .before .loop .inv .1 .size),
       omega arith,
-      start .pre .3 .first _ (omega arith) ∙ ap (λ (c : ℕ → ℕ). syndrome0 c (start .args .run .len)) (sym line),
-      start .pre .3 .second _ (omega arith) ∙ ap (λ (c : ℕ → ℕ). syndrome1 (start .args .reduction) c (start .args .run .len)) (sym line),
+      start .pre .2 .first _ (omega arith) ∙ ap (λ (c : ℕ → ℕ). syndrome0 c (start .args .run .len)) (sym line),
+      start .pre .2 .second _ (omega arith) ∙ ap (λ (c : ℕ → ℕ). syndrome1 (start .args .reduction) c (start .args .run .len)) (sym line),
     )
 
 add-t : tie.Need-add-t Inv-loop μ-loop
@@ -45,7 +44,7 @@ loop-less c = omega arith
 loop-again : tie.Need-loop-again Inv-loop μ-loop
 loop-again c = (
   omega arith,
-  changed-more _ _ _ _ 1 (omega arith) (c .before .before .before .before .before .before .before .before .before .pre .1 .apart) (c .before .before .before .before .before .before .before .loop .inv .1) (corrected-changed (c .before .before .correct-line .ensures)),
+  changed-more _ _ _ _ 1 (omega arith) (c .before .before .before .before .before .before .before .before .before .pre .0 .apart) (c .before .before .before .before .before .before .before .loop .inv .1) (corrected-changed (c .before .before .correct-line .ensures)),
 )
 
 same-length : tie.Need-same-length Inv-loop μ-loop

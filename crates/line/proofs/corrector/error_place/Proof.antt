@@ -1,5 +1,5 @@
 -- `line::corrector::error_place` gives the place of a single error: none where a syndrome is 0.
-use Rattle.line.specs.Run.{PlaceOutcome}
+use Rattle.line.specs.Inner.Corrector.{PlaceOutcome}
 use borrow.Author.Needs.{needs}
 use Rattle.line.proofs.corrector.error_place.Statement.{statement}
 use Rattle.line.proofs.corrector.error_place.Tie as tie

@@ -4,7 +4,8 @@ use Prim.Native.Nat.{ℕ, _-_, _≤_, _<_}
 use native.Mathlib.Omega.{arith}
 use borrow.Author.Count.{below-more}
 use Rattle.field.specs.Field.{xtime, mul, pow}
-use Rattle.line.specs.Run.{PlaceOutcome}
+use Rattle.line.specs.Inner.Corrector.{PlaceOutcome}
+use Rattle.line.proofs.Error.{error-place-first}
 use Rattle.line.proofs.Correction.{power-first, power-next}
 use Rattle.line.proofs.corrector.search.Statement.{statement}
 use Rattle.line.proofs.corrector.search.Tie as tie
@@ -24,12 +25,15 @@ loop-holds c = (omega arith, power-first _ _ (c .fits .v0 .fits), λ i h. absurd
 returns : tie.Need-returns Inv-loop μ-loop
 unfolding PlaceOutcome
 returns c =
-    record {
-      first-nonzero = c .before .before .before .pre .0;
-      second-nonzero = c .before .before .before .pre .1;
-      below = omega arith;
-      factor = sym (c .if1 .taken) ∙ c .before .before .loop .inv .1;
-    }
+    let factor = sym (c .if1 .taken) ∙ c .before .before .loop .inv .1 in (
+      record {
+        first-nonzero = c .before .before .before .pre .0;
+        second-nonzero = c .before .before .before .pre .1;
+        below = omega arith;
+        factor = factor;
+      },
+      error-place-first _ _ _ _ _ (omega arith) factor (c .before .before .loop .inv .2),
+    )
 
 xtime-requires : tie.Need-xtime-requires Inv-loop μ-loop
 xtime-requires c κs = tt

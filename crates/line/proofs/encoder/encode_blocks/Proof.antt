@@ -20,8 +20,8 @@ place-requires c κs = search needs
 solve-blocks-requires : tie.Need-solve-blocks-requires
 solve-blocks-requires c κs =
     let pre = c .before .before .before .before .before .before .before .before .before .pre in
-    let order = parity-order _ (pre .3) (pre .2) in
-    (inside-size (pre .1) (c .before .before .before .place .ensures .size), order .0, order .1)
+    let order = parity-order _ (pre .2) (pre .1) in
+    (inside-size (pre .0) (c .before .before .before .place .ensures .size), order .0, order .1)
 
 same-length-2 : tie.Need-same-length-2
 same-length-2 c = search needs
@@ -29,7 +29,7 @@ same-length-2 c = search needs
 returns-2 : tie.Need-returns-2
 returns-2 c =
     let pre = c .before .before .before .before .before .before .before .before .before .before .before .before .pre in
-    written-encoded (pre .0) (pre .1) (pre .2) (pre .3) (c .before .before .before .before .before .before .place .ensures) (c .before .before .solve-blocks .ensures)
+    written-encoded (pre .0) (pre .1) (pre .2) (c .before .before .before .before .before .before .place .ensures) (c .before .before .solve-blocks .ensures)
 
 pub encode-blocks-spec : {M : Type 1} → statement M
 encode-blocks-spec =

@@ -55,8 +55,8 @@ loop-again c =
     let start = c .before .before .before .before .before .before .before .before .before .before .before .before in
     let turn = c .before .before .before .before .before .before .before .before .before .loop in
     let here : turn .i < start .args .from .len = omega arith in
-    let copied = c .before .before .copy .ensures .done (from-place start (turn .i) here)
-    (omega (arith, to-place start (turn .i) here, turn .inv .1 .size)) .1 in (
+    let copied = c .before .before .copy .ensures .done
+    (from-place start (turn .i) here, omega (arith, to-place start (turn .i) here, turn .inv .1 .size)) .1 in (
       omega arith,
       between-more (turn .inv .1) _ _ (turn .i) copied (start .pre .0 .apart) (omega arith) (omega arith),
     )

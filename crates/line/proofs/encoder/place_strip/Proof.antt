@@ -4,7 +4,7 @@ use Prim.Native.Nat.{ℕ, _+_, _-_, _*_, _≤_, _<_}
 use native.Mathlib.Omega.{arith}
 use lib.ListN.{length}
 use denote.Ref.{now}
-use Rattle.line.specs.Block.{Tails}
+use Rattle.line.specs.Inner.Wide.{Tails}
 use Rattle.line.proofs.Encoding.{Between, between-none, between-more, between-all}
 use Rattle.line.proofs.Tails.{tails-none, tails-at, tails-one, tails-whole, step-one}
 use Rattle.line.proofs.encoder.place_strip.Statement.{statement}
@@ -66,8 +66,8 @@ loop-again c =
     let some = c .before .before .before .before .before .before .before .before .before .before .before .loop-test .taken in
     let wide : start .args .to .width ≡ 64 = start .pre .2 in
     let here : turn .left - 1 < start .args .from .len = omega arith in
-    let done = c .before .before .before .before .before .copy-strip .ensures .done (from-strip start (turn .left - 1) here)
-    (omega (arith, to-strip start (turn .left - 1) here, turn .inv .1 .size)) in (
+    let done = c .before .before .before .before .before .copy-strip .ensures .done
+    (from-strip start (turn .left - 1) here, omega (arith, to-strip start (turn .left - 1) here, turn .inv .1 .size)) in (
       omega arith,
       between-more (turn .inv .1) _ _ (turn .left - 1) (rw wide (done .0)) (start .pre .0 .apart) (omega arith) (omega arith),
       tails-one (start .fits .reduction .fits) (λ p. c .before .before .before .before .before .before .before .before .before .before .before .before .before .before .shared-slice-known .given p .fits) (turn .inv .2)

@@ -1,6 +1,6 @@
 -- `line::solver::invert` gives the inverse of a two by two array by value.
 use Rattle.field.specs.Field.{add}
-use Rattle.line.specs.Solver.{entry, adjugate, inverted}
+use Rattle.line.specs.Inner.Solver.{entry, adjugate, inverted}
 use borrow.Author.Needs.{needs}
 use Rattle.line.proofs.solver.invert.Statement.{statement}
 use Rattle.line.proofs.solver.invert.Tie as tie

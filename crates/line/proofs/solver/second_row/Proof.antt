@@ -2,7 +2,7 @@
 use mathlib.Core.Path.{ap₂}
 use mathlib.Core.List.{[], _∷_}
 use Prim.Native.Nat.{ℕ}
-use Rattle.line.specs.Solver.{entry, adjugate, inverted}
+use Rattle.line.specs.Inner.Solver.{entry, adjugate, inverted}
 use borrow.Author.Needs.{needs}
 use Rattle.line.proofs.Rows.{rows-same, row0-other, row1-other}
 use Rattle.line.proofs.solver.second_row.Statement.{statement}

@@ -1,6 +1,6 @@
 -- `line::strip::codewords` decides whether 64 lines are codewords: whether all syndromes are 0.
 use native.Mathlib.Omega.{arith}
-use Rattle.line.proofs.Decision.{decides-map}
+use Rattle.span.proofs.Decision.{decides-map}
 use Rattle.line.proofs.Zeros.{zeros-codewords, codewords-zeros, zeros-fewer}
 use borrow.Author.Needs.{needs}
 use Rattle.line.proofs.strip.codewords.Statement.{statement}

@@ -40,7 +40,7 @@ add-store-2 : tie.Need-add-store-2
 add-store-2 c = omega (arith, strip-k (c .before .before .before .before .before .before .before .before .before .before .before .before .before .before))
 
 store-requires-2 : tie.Need-store-requires-2
-store-requires-2 c κs = omega (arith, strip-k (c .before .before .before .before .before .before .before .before .before .before .before .before .before .before), c .before .before .before .before .before .before .before .before .before .before .before .before .before .before .pre .1, c .before .before .before .before .before .before .store .ensures .size)
+store-requires-2 c κs = omega (arith, strip-k (c .before .before .before .before .before .before .before .before .before .before .before .before .before .before), c .before .before .before .before .before .before .before .before .before .before .before .before .before .before .pre .1, c .before .before .before .before .before .before .store .ensures .kept .size)
 
 same-length : tie.Need-same-length
 same-length c = search needs

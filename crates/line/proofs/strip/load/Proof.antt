@@ -1,21 +1,21 @@
--- `line::strip::load` takes 64 bytes out of a slice.
-use mathlib.Core.Path.{_≡_, refl, _∙_}
-use Prim.Native.Nat.{_+_, _-_, _≤_}
+-- `line::strip::load` copies byte after byte into an array of zeros.
+use mathlib.Core.Path.{_≡_, refl}
+use Prim.Native.Nat.{_≤_, _-_}
 use native.Mathlib.Omega.{arith}
-use lib.ListN.{length, getD}
-use Rattle.line.proofs.Updated.{Updated, updated-none, updated-more}
+use lib.ListN.{length}
+use Rattle.span.specs.Span.{Copied}
+use Rattle.span.proofs.Copying.{copied-none, copied-more, copied-piece}
 use Rattle.line.proofs.strip.load.Statement.{statement}
 use Rattle.line.proofs.strip.load.Tie as tie
 
 abbrev Inv-loop : tie.InvT-loop
-Inv-loop s at c₀ t₀ c t =
-    (t ≤ 64) × (length c₀ ≡ 64) × Updated (λ p x. getD s (at + p) 0) 0 t c₀ c
+Inv-loop s at c₀ t₀ c t = (t ≤ 64) × (length c₀ ≡ 64) × Copied s at c₀ 0 t c
 
 abbrev μ-loop : tie.MeasureT-loop
 μ-loop s at c₀ t₀ c t = 64 - t
 
 loop-holds : tie.Need-loop-holds Inv-loop μ-loop
-loop-holds c = (omega arith, refl, updated-none _ 0 0 _ refl)
+loop-holds c = (omega arith, refl, copied-none _ _ _ _)
 
 add-c : tie.Need-add-c Inv-loop μ-loop
 add-c c = omega arith
@@ -36,15 +36,13 @@ loop-again : tie.Need-loop-again Inv-loop μ-loop
 loop-again c = (
   omega arith,
   c .before .before .loop .inv .1,
-  updated-more (c .before .before .loop .inv .2) _ _ (omega arith) (omega arith) refl refl,
+  copied-more _ _ _ _ _ _ _ _ (omega arith) refl (omega (arith, c .before .before .loop .inv .2 .kept .size)) (c .before .before .loop .inv .2),
 )
 
 returns : tie.Need-returns Inv-loop μ-loop
 returns c =
-    record {
-      size = c .before .loop .inv .2 .size ∙ c .before .loop .inv .1;
-      bytes = λ t h. c .before .loop .inv .2 .done t (omega arith) (omega arith);
-    }
+    let all : c .before .loop .t ≡ 64 = omega arith in
+    copied-piece (c .before .loop .inv .1) (rw all at (c .before .loop .inv .2))
 
 pub load-spec : {M : Type 1} → statement M
 load-spec =

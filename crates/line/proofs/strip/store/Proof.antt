@@ -1,22 +1,21 @@
--- `line::strip::store` writes 64 bytes into a slice.
-use mathlib.Core.Path.{ap, _∙_}
-use mathlib.Core.Logic.{inl, inr}
-use Prim.Native.Nat.{ℕ, _+_, _-_, _≤_}
+-- `line::strip::store` writes byte after byte: those below t are copied, all others kept.
+use mathlib.Core.Path.{_≡_, refl, ap}
+use Prim.Native.Nat.{ℕ, _≤_, _-_}
 use native.Mathlib.Omega.{arith}
 use lib.ListN.{getD}
-use Rattle.line.proofs.Updated.{Updated, updated-none, updated-more}
+use Rattle.span.specs.Span.{Copied}
+use Rattle.span.proofs.Copying.{copied-none, copied-more}
 use Rattle.line.proofs.strip.store.Statement.{statement}
 use Rattle.line.proofs.strip.store.Tie as tie
 
 abbrev Inv-loop : tie.InvT-loop
-Inv-loop s₀ at c t₀ s t =
-    (t ≤ 64) × Updated (λ p x. getD c (p - at) 0) at (at + t) s₀ s
+Inv-loop s₀ at c t₀ s t = (t ≤ 64) × Copied c 0 s₀ at t s
 
 abbrev μ-loop : tie.MeasureT-loop
 μ-loop s₀ at c t₀ s t = 64 - t
 
 loop-holds : tie.Need-loop-holds Inv-loop μ-loop
-loop-holds c = (omega arith, updated-none _ _ _ _ (omega arith))
+loop-holds c = (omega arith, copied-none _ _ _ _)
 
 array-read-s : tie.Need-array-read-s Inv-loop μ-loop
 array-read-s c = omega arith
@@ -25,7 +24,7 @@ add-s : tie.Need-add-s Inv-loop μ-loop
 add-s c = omega arith
 
 slice-write-s : tie.Need-slice-write-s Inv-loop μ-loop
-slice-write-s c = omega (arith, c .before .loop .inv .1 .size)
+slice-write-s c = omega (arith, c .before .loop .inv .1 .kept .size)
 
 add-t : tie.Need-add-t Inv-loop μ-loop
 add-t c = omega arith
@@ -34,23 +33,15 @@ loop-less : tie.Need-loop-less Inv-loop μ-loop
 loop-less c = omega arith
 
 loop-again : tie.Need-loop-again Inv-loop μ-loop
-loop-again c = (
-  omega arith,
-  updated-more (c .before .loop .inv .1) _ _ (omega arith) (omega arith) (ap (λ (i : ℕ). getD (c .before .before .args .t3) i 0) (omega arith)) (omega arith),
-)
+loop-again c = (omega arith, copied-more _ _ _ _ _ _ _ _ refl (ap (λ (k : ℕ). getD (c .before .before .args .t3) k 0) (omega arith)) (omega (arith, c .before .loop .inv .1 .kept .size)) (c .before .loop .inv .1))
 
 same-length : tie.Need-same-length Inv-loop μ-loop
-same-length c = c .before .loop .inv .1 .size
+same-length c = c .before .loop .inv .1 .kept .size
 
 returns : tie.Need-returns Inv-loop μ-loop
 returns c =
-    let all = c .before .loop .inv .1 in
-    record {
-      size = all .size;
-      copied = λ t h. all .done _ (omega arith) (omega arith) ∙ ap (λ (i : ℕ). getD (c .before .before .args .t3) i 0) (omega arith);
-      below = λ p l. all .kept p (inl l);
-      above = λ p l. all .kept p (inr (omega arith));
-    }
+    let all : c .before .loop .t ≡ 64 = omega arith in
+    rw all at (c .before .loop .inv .1)
 
 pub store-spec : {M : Type 1} → statement M
 store-spec =

@@ -3,7 +3,7 @@ use Prim.Native.Nat.{_+_, _-_, _*_, _≤_}
 use native.Mathlib.Omega.{arith}
 use lib.ListN.{length}
 use denote.Ref.{now}
-use Rattle.line.specs.Block.{Tails}
+use Rattle.line.specs.Inner.Wide.{Tails}
 use Rattle.line.proofs.Tails.{tails-none, tails-at, tails-one, tails-whole, step-one}
 use Rattle.line.proofs.strip.syndromes.Statement.{statement}
 use Rattle.line.proofs.strip.syndromes.Tie as tie

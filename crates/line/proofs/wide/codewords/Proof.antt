@@ -1,5 +1,5 @@
 -- `line::wide::codewords` decides whether all lines of a block are codewords: whether all syndromes are 0.
-use Rattle.line.proofs.Decision.{decides-map}
+use Rattle.span.proofs.Decision.{decides-map}
 use Rattle.line.proofs.Zeros.{zeros-codewords, codewords-zeros}
 use borrow.Author.Needs.{needs}
 use Rattle.line.proofs.wide.codewords.Statement.{statement}

@@ -2,7 +2,7 @@
 use mathlib.Core.Path.{_≡_}
 use Prim.Native.Nat.{_%_, _≤_}
 use native.Mathlib.Omega.{arith}
-use Rattle.line.specs.Block.{Tails}
+use Rattle.line.specs.Inner.Wide.{Tails}
 use Rattle.line.proofs.Tails.{tails-at, tails-four}
 use Rattle.line.proofs.wide.fours.Statement.{statement}
 use Rattle.line.proofs.wide.fours.Tie as tie

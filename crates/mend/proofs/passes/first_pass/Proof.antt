@@ -5,17 +5,16 @@ use Prim.Native.Nat.{_+_, _*_, _≤_, _-_}
 use native.Mathlib.Nat.{mul-le-mul-right}
 use native.Mathlib.Omega.{arith}
 use borrow.Author.Needs.{needs}
-use Rattle.field.specs.Field.{reduction}
-use Rattle.cube.specs.Shapes.{cells}
+use Rattle.shape.specs.Shapes.{cells}
 use Rattle.mend.proofs.Rows.{RowsThrough, rowRun, rows-few, row-end, row-inside, rows-none, rows-more, rows-all}
 use Rattle.mend.proofs.passes.first_pass.Statement.{statement}
 use Rattle.mend.proofs.passes.first_pass.Tie as tie
 
 abbrev Inv-loop : tie.InvT-loop
-Inv-loop cube second₀ w l1 row rows m₀ second m = (m ≤ rows) × RowsThrough reduction w l1 m cube second
+Inv-loop cube second₀ reduction w l1 row rows m₀ second m = (m ≤ rows) × RowsThrough reduction w l1 m cube second
 
 abbrev μ-loop : tie.MeasureT-loop
-μ-loop cube second₀ w l1 row rows m₀ second m = rows - m
+μ-loop cube second₀ reduction w l1 row rows m₀ second m = rows - m
 
 -- the row of a turn lies inside both cubes
 inside-here : (c : tie.In-loop Inv-loop μ-loop) → let a = c .before .before .before .before .before .args in
@@ -56,11 +55,11 @@ loop-again c =
     let less = turn .loop-test .taken in
     let through = turn .before .loop .inv .1 in
     let copied = c .before .before .before .before .before .before .copy .ensures .done
-    (omega (arith, inside-here turn, pre .1)) (omega (arith, inside-here turn, pre .1, through .size)) .1 in
+    (omega (arith, inside-here turn, pre .1), omega (arith, inside-here turn, pre .1, through .size)) .1 in
     let outcome = c .before .before .correct .ensures in
-    let size = copied .size ∙ through .size ∙ pre .1 in (
+    let size = copied .kept .size ∙ through .size ∙ pre .1 in (
       omega (arith, less),
-      rows-more _ _ _ _ _ _ _ _ through copied (outcome .written (outcome .yes-when (rw size (row-inside _ _ (pre .0) less)))),
+      rows-more _ _ _ _ _ _ _ _ through copied (outcome .done (rw size (row-inside _ _ (pre .0) less)) .1),
     )
 
 same-length : tie.Need-same-length Inv-loop μ-loop

@@ -1,29 +1,29 @@
 -- `mend::passes::pass` meets its contract. The invariant: m is a multiple of the stride, and the cube is the one after the runs of the lines
 -- below m. Assumes nothing.
-use mathlib.Core.Path.{_≡_, sym, _∙_}
+use mathlib.Core.Path.{_≡_, _∙_}
 use Prim.Native.Nat.{_≤_, _-_, _%_}
 use native.Mathlib.Nat.{zero-mod}
 use native.Mathlib.Omega.{arith}
 use borrow.Author.Needs.{needs}
-use Rattle.field.specs.Field.{reduction}
-use Rattle.cube.specs.Shapes.{linesOf, strideOf}
+use Rattle.shape.specs.Shapes.{linesOf, strideOf}
+use Rattle.shape.proofs.Valid.{line-told, line-refused}
 use Rattle.cube.proofs.AxisRuns.{Begins, begins, lines-ended, runFrom}
 use Rattle.mend.proofs.Correction.{Through, through-none, through-more, through-all}
 use Rattle.mend.proofs.passes.pass.Statement.{statement}
 use Rattle.mend.proofs.passes.pass.Tie as tie
 
 abbrev Inv-loop : tie.InvT-loop
-Inv-loop cube₀ sh axis w m₀ cube m = (m % strideOf sh axis ≡ 0) × (m ≤ linesOf sh axis) × Through reduction sh axis m cube₀ cube
+Inv-loop cube₀ reduction sh axis w m₀ cube m = (m % strideOf sh axis ≡ 0) × (m ≤ linesOf sh axis) × Through reduction sh axis m cube₀ cube
 
 abbrev μ-loop : tie.MeasureT-loop
-μ-loop cube₀ sh axis w m₀ cube m = linesOf sh axis - m
+μ-loop cube₀ reduction sh axis w m₀ cube m = linesOf sh axis - m
 
 -- the line found is the first of a block
 line-here : (c : tie.After-struct-known Inv-loop μ-loop)
     → let a = c .before .before .before .before .before .before .before .args in
     Begins (a .sh) (a .axis) (c .before .before .before .before .before .loop .m) (c .before .before .found .given .0 .0)
 line-here c =
-    begins _ _ _ _ (sym (c .before .before .before .before .axis-line .ensures) ∙ c .before .before .found .given .1)
+    begins _ _ _ _ (line-told _ _ _ _ _ (c .before .before .before .before .axis-line .ensures) (c .before .before .found .given .1))
     (c .before .before .before .before .before .loop .inv .0)
 
 loop-holds : tie.Need-loop-holds Inv-loop μ-loop
@@ -44,17 +44,18 @@ same-length c = c .before .before .before .loop .inv .2 .size
 returns : tie.Need-returns Inv-loop μ-loop
 returns c =
     let pre = c .before .before .before .before .before .pre in
-    through-all _ _ _ _ _ _ (lines-ended _ _ _ _ (pre .0) (pre .2) (pre .3) (sym (c .before .before .axis-line .ensures) ∙ c .enum-told .given .1))
+    through-all _ _ _ _ _ _ (pre .0)
+    (lines-ended _ _ _ _ (pre .0) (pre .2) (pre .3) (line-refused _ _ _ _ _ (c .before .before .axis-line .ensures) (c .enum-told .given .1)))
     (c .before .before .before .loop .inv .2)
 
-mul-t10 : tie.Need-mul-t10 Inv-loop μ-loop
-mul-t10 c = omega (arith, line-here c .first-small)
-
 mul-t11 : tie.Need-mul-t11 Inv-loop μ-loop
-mul-t11 c = omega (arith, line-here c .stride-small)
+mul-t11 c = omega (arith, line-here c .first-small)
 
 mul-t12 : tie.Need-mul-t12 Inv-loop μ-loop
 mul-t12 c = omega (arith, line-here c .stride-small)
+
+mul-t13 : tie.Need-mul-t13 Inv-loop μ-loop
+mul-t13 c = omega (arith, line-here c .stride-small)
 
 correct-requires : tie.Need-correct-requires Inv-loop μ-loop
 correct-requires c κs = search needs
@@ -72,7 +73,7 @@ loop-again c =
     let outcome = c .before .before .correct .ensures in
     let inv = c .before .before .before .before .before .before .before .before .before .loop .inv in
     let size = inv .2 .size ∙ c .before .before .before .before .before .before .before .before .before .before .before .pre .1 in
-    (here .next-aligned, here .next, through-more _ _ _ _ _ _ here _ _ (inv .2) (outcome .written (outcome .yes-when (rw size (here .inside)))))
+    (here .next-aligned, here .next, through-more _ _ _ _ _ _ here _ _ (inv .2) (outcome .done (rw size (here .inside)) .1))
 
 pub pass-spec : {M : Type 1} → statement M
 pass-spec =
@@ -86,9 +87,9 @@ pass-spec =
     enum-told
     same-length
     returns
-    mul-t10
     mul-t11
     mul-t12
+    mul-t13
     correct-requires
     add-m
     loop-less

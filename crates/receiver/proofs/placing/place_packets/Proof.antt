@@ -5,34 +5,34 @@ use mathlib.Core.Path.{_≡_, sym}
 use Prim.Native.Nat.{ℕ, _+_, _-_, _≤_, _<_}
 use lib.ListN.{length}
 use Rattle.receiver.proofs.Bytes.{replicate-size}
-use Rattle.cube.specs.Shapes.{cells}
-use Rattle.receiver.specs.Receive.{Conflicting, repeatsOf, Placed}
-use Rattle.receiver.specs.Arrivals.{Placement}
-use Rattle.receiver.proofs.Packets.{packet-end}
+use Rattle.shape.specs.Shapes.{cells}
+use Rattle.pack.specs.Packets.{source}
+use Rattle.receiver.specs.Placing.{Conflicting, repeatsOf, Placed}
+use Rattle.receiver.specs.Inner.Placing.{Placement}
 use Rattle.receiver.proofs.Arrivals.{placed-none, repeats-none, repeats-le, repeats-next, none-more, placement-all, arrived-agrees, arrived-differs}
 use Rattle.receiver.proofs.placing.place_packets.Statement.{statement}
 use Rattle.receiver.proofs.placing.place_packets.Tie as tie
 
 abbrev Inv-loop : tie.InvT-loop
-Inv-loop air cube₀ flags₀ sh n repeats₀ i₀ cube flags repeats i = (i ≤ n) × (repeats ≡ repeatsOf air sh i) × Placed air sh i cube flags × ((j : ℕ) → j < i → Conflicting air sh j → ⊥)
+Inv-loop air cube₀ flags₀ h s n repeats₀ i₀ cube flags repeats i = (i ≤ s .count) × (repeats ≡ repeatsOf (source air h s) i) × Placed (h .shape) (source air h s) i cube flags × ((j : ℕ) → j < i → Conflicting (h .shape) (source air h s) j → ⊥)
 
 abbrev μ-loop : tie.MeasureT-loop
-μ-loop air cube₀ flags₀ sh n repeats₀ i₀ cube flags repeats i = n - i
+μ-loop air cube₀ flags₀ h s n repeats₀ i₀ cube flags repeats i = s .count - i
 
-flags-length : (s : tie.Start Inv-loop μ-loop) → length (s .args .flags .now) ≡ cells (s .args .sh)
-flags-length s = replicate-size _ _ _ (s .pre .4)
+flags-length : (s : tie.Start Inv-loop μ-loop) → length (s .args .flags .now) ≡ cells (s .args .h .shape)
+flags-length s = replicate-size _ _ _ (s .pre .3)
 
 loop-holds : tie.Need-loop-holds Inv-loop μ-loop
 loop-holds c =
     let s = c .before .before .before in
-    (omega arith, sym (repeats-none _ _), rw (s .pre .4) (placed-none _ _ _ (s .pre .3)), λ j l. absurd (omega arith))
+    (omega arith, sym (repeats-none _), rw (s .pre .3) (placed-none _ _ _ (s .pre .2)), λ j l. absurd (omega arith))
 
 place-packet-requires : tie.Need-place-packet-requires Inv-loop μ-loop
 place-packet-requires c κs =
     let l = c .before .before in
     let s = l .before .before .before .before .before in
     let less = l .loop-test .taken in
-    (s .pre .0, omega (arith, packet-end (s .args .sh) (l .before .loop .i) (s .args .n) less), s .pre .2 (l .before .loop .i) less, l .before .loop .inv .2)
+    (s .pre .0, s .pre .1 (l .before .loop .i) less, l .before .loop .inv .2)
 
 enum-known-arrival : tie.Need-enum-known-arrival Inv-loop μ-loop
 enum-known-arrival c = search needs
@@ -65,9 +65,11 @@ add-repeats : tie.Need-add-repeats Inv-loop μ-loop
 add-repeats c =
     let m = c .before .before .before .before .before .before .before in
     let l = m .before .before .before in
+    let s = l .before .before .before .before .before in
     let more = arrived-agrees _ _ _ _ _ _ _ _ _ (m .place-packet .ensures) (c .before .arrival .given .1) in
-    let next = repeats-next _ _ _ _ _ (l .before .loop .inv .1) (more .2) in
-    omega (arith, next, repeats-le (l .before .before .before .before .before .args .air .now) (l .before .before .before .before .before .args .sh) (l .before .loop .i + 1))
+    let next = repeats-next _ _ _ _ (l .before .loop .inv .1) (more .2) in
+    let few = s .pre .1 (l .before .loop .i) (l .loop-test .taken) .index in
+    omega (arith, next, few, repeats-le (source (s .args .air .now) (s .args .h) (s .args .s)) (l .before .loop .i + 1))
 
 add-i : tie.Need-add-i Inv-loop μ-loop
 add-i c = omega arith
@@ -80,7 +82,7 @@ loop-again c =
     let m = c .before .before .before .before .before .before .before in
     let l = m .before .before .before in
     let more = arrived-agrees _ _ _ _ _ _ _ _ _ (m .place-packet .ensures) (c .before .arrival .given .1) in
-    (omega arith, repeats-next _ _ _ _ _ (l .before .loop .inv .1) (more .2), more .0, none-more _ _ _ (l .before .loop .inv .3) (more .1))
+    (omega arith, repeats-next _ _ _ _ (l .before .loop .inv .1) (more .2), more .0, none-more _ _ _ (l .before .loop .inv .3) (more .1))
 
 same-length-3 : tie.Need-same-length-3 Inv-loop μ-loop
 same-length-3 c = omega (arith, c .before .loop .inv .2 .cube-size)
@@ -91,7 +93,7 @@ same-length-4 c = omega (arith, c .before .loop .inv .2 .flags-size, flags-lengt
 returns-2 : tie.Need-returns-2 Inv-loop μ-loop
 returns-2 c =
     let s = c .before .before .before .before .before in
-    let all : c .before .loop .i ≡ s .args .n = omega arith in
+    let all : c .before .loop .i ≡ s .args .s .count = omega arith in
     let placed = rw all at (c .before .loop .inv .2) in (
       placement-all _ _ _ _ _ _ (rw all at (c .before .loop .inv .1)) placed (rw all at (c .before .loop .inv .3)),
       omega (arith, placed .cube-size),

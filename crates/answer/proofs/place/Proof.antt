@@ -1,0 +1,22 @@
+-- `answer::place` meets its contract.
+use borrow.Author.Needs.{needs}
+use Rattle.answer.specs.Values.{refusal, placeOf}
+use Rattle.answer.proofs.place.Statement.{statement}
+use Rattle.answer.proofs.place.Tie as tie
+
+enum-told : tie.Need-enum-told
+enum-told c = search needs
+
+enum-known-f : tie.Need-enum-known-f
+enum-known-f c = search needs
+
+returns : tie.Need-returns
+unfolding placeOf refusal
+returns c = rw (c .enum-told .given .1)
+
+returns-2 : tie.Need-returns-2
+unfolding placeOf refusal
+returns-2 c = rw (c .before .f .given .1)
+
+pub place-spec : {M : Type 1} → statement M
+place-spec = tie.close (tie.spec enum-told enum-known-f returns returns-2)

@@ -1,0 +1,3 @@
+-- What a reader of the crate `answer` must believe.
+pub mod Refusals
+pub mod Values

@@ -1,0 +1,26 @@
+-- The numbers of document 01, "Where each refusal is checked".
+use Prim.Native.Nat.{ℕ}
+use Rattle.answer.specs.declared.Fault.{Fault}
+use Rattle.answer.specs.declared.Fault.the-variants.{Dimension, PacketSize, CubeSize, SliceLength, FlagValue, Truncated, HeaderCount, TrailingBytes, SectionCount, Capacity, Contradiction, FileLength, Erasure, Uncorrected}
+use Rattle.answer.specs.declared.PacketFault.{PacketFault}
+use Rattle.answer.specs.declared.PacketFault.the-variants.{CellIndex, Conflict}
+
+unfoldable pub faultNumber : Fault → ℕ
+faultNumber Dimension = 1
+faultNumber PacketSize = 2
+faultNumber CubeSize = 3
+faultNumber SliceLength = 4
+faultNumber FlagValue = 5
+faultNumber Truncated = 6
+faultNumber HeaderCount = 7
+faultNumber TrailingBytes = 8
+faultNumber SectionCount = 9
+faultNumber Capacity = 10
+faultNumber Contradiction = 13
+faultNumber FileLength = 14
+faultNumber Erasure = 15
+faultNumber Uncorrected = 16
+
+unfoldable pub packetFaultNumber : PacketFault → ℕ
+packetFaultNumber CellIndex = 11
+packetFaultNumber Conflict = 12

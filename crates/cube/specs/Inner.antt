@@ -1,0 +1,4 @@
+-- What the crate's own functions promise each other.
+pub mod Checker
+pub mod Encoder
+pub mod Reader

@@ -1,0 +1,182 @@
+-- Demand 1, from the contracts alone: each outcome of each call is a result or one of its refusals.
+use mathlib.Core.Path.{_≡_, refl, sym, _∙_}
+use mathlib.Core.Bool.{Bool, false, false≢true}
+use mathlib.Core.List.{List}
+use Prim.Native.Nat.{ℕ}
+use native.Mathlib.Omega.{arith}
+use Rattle.answer.specs.Values.{Value, refused, Checked, passes, fails, checked}
+use Rattle.field.specs.Field.{reduction}
+use Rattle.shape.specs.declared.Shape.{Shape}
+use Rattle.shape.specs.Shapes.{shapeChecked, lineOf}
+use Rattle.cube.specs.Calls.{EncodeOutcome, encode-refused, encode-done, ExtractOutcome, extract-refused, extract-done, ReadOutcome, read-refused, read-done, ZeroOutcome, zero-refused, zero-done, CheckOutcome, check-refused, check-done}
+use Rattle.fill.specs.Fill.{CellsLeft, FillOutcome, fill-refused, fill-done, fill-contradiction}
+use Rattle.mend.specs.Mend.{MendOutcome, mend-refused, mend-done, mend-uncorrected, AxisOutcome, axis-refused, axis-done}
+use Rattle.pack.specs.Reading.{headerOf, jobOf, airOf}
+use Rattle.pack.specs.Writing.{sizeChecked, AirOutcome, air-kept, air-written}
+use Rattle.writer.specs.Write.{WriteOutcome, write-refused, write-done}
+use Rattle.receiver.specs.declared.Counts.{Counts}
+use Rattle.receiver.specs.Gathering.{Reception, unfit, index, conflict, contradiction, some-left, none-left}
+use Rattle.receiver.specs.Opening.{bad}
+use Rattle.receiver.specs.Receive.{Memory, ReceiveOutcome, unopened, bad-file, opened}
+use Rattle.demands.specs.Ends.{isOneOf, OneOf, ofPacket, keeping, Ends, in-result, in-refusal, in-packet, Keeps, OnlyReads}
+use Rattle.demands.specs.Demand1.{shapeNumbers, cubeNumbers, fillNumbers, mendNumbers, headerNumbers, packNumbers, writerNumbers, receiverNumbers, FillLeaves, MendLeaves, ReceiveLeaves, Demand1}
+use Rattle.demands.proofs.Numbers.{Plain, shape-number, size-number, line-number, slices-number, cube-number, write-air-number, axis-number, read-number, fill-number, mend-number, header-number, job-number, air-number, write-number, receive-number}
+
+-- ---- numbers
+
+-- a refusal by the checks
+refuses : {A : Type 0} {numbers : List ℕ} {Leaves : ℕ → Type 0} {n : ℕ} → Plain numbers n → Leaves n → Ends {A = A} numbers Leaves (refused n)
+refuses {n} k l = in-refusal n (k .listed) (k .of-call) l
+
+-- a call that does nothing but check
+checks-end : {A : Type 0} (numbers : List ℕ) (c : Checked A) → ((n : ℕ) → c ≡ fails n → Plain numbers n) → Ends numbers OnlyReads (checked c)
+unfolding checked
+checks-end numbers (passes a) h = in-result a
+checks-end numbers (fails n) h = refuses (h n refl) tt
+
+checked-ends : {A : Type 0} (numbers : List ℕ) (c : Checked A) → ((n : ℕ) → c ≡ fails n → Plain numbers n)
+    → (value : Value A) → value ≡ checked c → Ends numbers OnlyReads value
+checked-ends numbers c h value e = rw e (checks-end numbers c h)
+
+-- no number that keeps all bytes is another
+keeps-no : {X : Type 0} (n m : ℕ) → OneOf keeping n → isOneOf keeping m ≡ false → n ≡ m → X
+unfolding OneOf
+keeps-no n m k other e = absurd (false≢true (sym other ∙ (rw e at k)))
+
+-- ---- cubes
+
+encode-ends : (sh : Shape) (ds before after : List ℕ) (value : Value Unit) → EncodeOutcome reduction sh ds before after value
+    → Ends cubeNumbers (Keeps before after) value
+encode-ends sh ds before after _ (encode-refused n e k) = refuses (slices-number n sh _ _ e) k
+encode-ends sh ds before after _ (encode-done e k) = in-result tt
+
+extract-ends : (sh : Shape) (xs before after : List ℕ) (value : Value Unit) → ExtractOutcome sh xs before after value
+    → Ends cubeNumbers (Keeps before after) value
+extract-ends sh xs before after _ (extract-refused n e k) = refuses (slices-number n sh _ _ e) k
+extract-ends sh xs before after _ (extract-done e k) = in-result tt
+
+read-ends : (sh : Shape) (xs : List ℕ) (from to n : ℕ) (before after : List ℕ) (value : Value Unit) → ReadOutcome sh xs from to n before after value
+    → Ends cubeNumbers (Keeps before after) value
+read-ends sh xs from to n before after _ (read-refused m e k) = refuses (read-number m sh _ _ from to n e) k
+read-ends sh xs from to n before after _ (read-done e k) = in-result tt
+
+zero-ends : (sh : Shape) (xs : List ℕ) (from : ℕ) (value : Value Bool) → ZeroOutcome sh xs from value → Ends cubeNumbers OnlyReads value
+zero-ends sh xs from _ (zero-refused n e) = refuses (cube-number n sh _ e) tt
+zero-ends sh xs from _ (zero-done b e d) = in-result b
+
+check-ends : (sh : Shape) (xs : List ℕ) (value : Value Bool) → CheckOutcome reduction sh xs value → Ends cubeNumbers OnlyReads value
+check-ends sh xs _ (check-refused n e) = refuses (cube-number n sh _ e) tt
+check-ends sh xs _ (check-done b e d) = in-result b
+
+axis-ends : (sh : Shape) (axis : ℕ) (before after : List ℕ) (value : Value Unit) → AxisOutcome reduction sh axis before after value
+    → Ends cubeNumbers (Keeps before after) value
+axis-ends sh axis before after _ (axis-refused n e k) = refuses (axis-number n sh axis _ e) k
+axis-ends sh axis before after _ (axis-done e k) = in-result tt
+
+fill-ends : (sh : Shape) (xs fs xs′ fs′ : List ℕ) (value : Value CellsLeft) → FillOutcome reduction sh xs fs xs′ fs′ value
+    → Ends fillNumbers (FillLeaves sh xs fs xs′ fs′) value
+unfolding OneOf isOneOf ofPacket keeping fillNumbers
+fill-ends sh xs fs xs′ fs′ _ (fill-refused n e x y) =
+    let k = fill-number n sh _ fs e in
+    refuses k (record { kept = λ _. (x, y); contradiction = λ z. keeps-no n 13 (k .keeps) refl z })
+fill-ends sh xs fs xs′ fs′ _ (fill-done d s v k u) = in-result _
+fill-ends sh xs fs xs′ fs′ _ (fill-contradiction d K k none c e) =
+    in-refusal 13 refl refl (record { kept = λ z. absurd (false≢true z); contradiction = λ _. (c, e) })
+
+mend-ends : (sh : Shape) (xs fs before after : List ℕ) (value : Value Unit) → MendOutcome reduction sh xs fs before after value
+    → Ends mendNumbers (MendLeaves before after) value
+unfolding OneOf isOneOf ofPacket keeping mendNumbers
+mend-ends sh xs fs before after _ (mend-refused n e k) =
+    let h = mend-number n sh _ _ fs e in
+    refuses h (record { kept = λ _. k; uncorrected = λ z. keeps-no n 16 (h .keeps) refl z })
+mend-ends sh xs fs before after _ (mend-done d p c) = in-result tt
+mend-ends sh xs fs before after _ (mend-uncorrected d ys p none k) =
+    in-refusal 16 refl refl (record { kept = λ z. absurd (false≢true z); uncorrected = λ _. k })
+
+-- ---- packs
+
+air-ends : (sh : Shape) (xs before after : List ℕ) (value : Value Unit) → AirOutcome sh xs before after value
+    → Ends cubeNumbers (Keeps before after) value
+air-ends sh xs before after _ (air-kept n e k) = refuses (write-air-number n sh _ _ e) k
+air-ends sh xs before after _ (air-written e k) = in-result tt
+
+write-ends : (p xs out xs′ out′ : List ℕ) (value : Value Unit) → WriteOutcome reduction p xs out xs′ out′ value
+    → Ends writerNumbers (λ n. Keeps xs xs′ n × Keeps out out′ n) value
+write-ends p xs out xs′ out′ _ (write-refused n e x y) = refuses (write-number n p _ _ e) (x, y)
+write-ends p xs out xs′ out′ _ (write-done h s e w) = in-result tt
+
+module _ (p : List ℕ) (m m′ : Memory) where
+  receive-ends : (value : Value Reception) (counts : Counts) → ReceiveOutcome reduction p m m′ value counts
+      → Ends receiverNumbers (ReceiveLeaves p m m′ counts) value
+  unfolding OneOf isOneOf ofPacket keeping receiverNumbers
+  receive-ends _ _ (unopened _ _ (unfit n e x y) same) =
+      let k = receive-number n p m e in
+      refuses k (record {
+        kept = λ _. (x, y);
+        conflict = λ z. keeps-no n 12 (k .keeps) refl z;
+        contradiction = λ z. keeps-no n 13 (k .keeps) refl z;
+        bad-file = λ z. keeps-no n 14 (k .keeps) refl z;
+        buffer = same;
+        no-counts = refl;
+      })
+  receive-ends _ _ (unopened _ _ (index h s e i l out before x y) same) =
+      in-packet 11 i refl refl (record {
+        kept = λ _. (x, y);
+        conflict = λ z. absurd (omega arith);
+        contradiction = λ z. absurd (omega arith);
+        bad-file = λ z. absurd (omega arith);
+        buffer = same;
+        no-counts = refl;
+      })
+  receive-ends _ _ (unopened _ _ (conflict h s e ins i l c none x y) same) =
+      in-packet 12 i refl refl (record {
+        kept = λ z. absurd (false≢true z);
+        conflict = λ _. (x, y);
+        contradiction = λ z. absurd (omega arith);
+        bad-file = λ z. absurd (omega arith);
+        buffer = same;
+        no-counts = refl;
+      })
+  receive-ends _ _ (unopened _ _ (contradiction h s e xs₁ fs₁ t (fill-refused _ c x y)) same) = keeps-no 13 13 (fill-number 13 _ _ fs₁ c .keeps) refl refl
+  receive-ends _ _ (unopened _ _ (contradiction h s e xs₁ fs₁ t (fill-contradiction d K k none c f)) same) =
+      in-refusal 13 refl refl (record {
+        kept = λ z. absurd (false≢true z);
+        conflict = λ z. absurd (omega arith);
+        contradiction = λ _. (record { header = h; section = s; checks = e; cube = xs₁; flags = fs₁; taken = t }, c, f);
+        bad-file = λ z. absurd (omega arith);
+        buffer = same;
+        no-counts = refl;
+      })
+  receive-ends _ _ (unopened _ _ (some-left h s e xs₁ fs₁ t k some o) same) = in-result _
+  receive-ends _ _ (bad-file h′ s′ k e′ (none-left h s e xs₁ fs₁ t f) (bad b same)) =
+      in-refusal 14 refl refl (record {
+        kept = λ z. absurd (false≢true z);
+        conflict = λ z. absurd (omega arith);
+        contradiction = λ z. absurd (omega arith);
+        bad-file = λ _. (record { header = h; section = s; checks = e; cube = xs₁; flags = fs₁; taken = t }, f);
+        buffer = same;
+        no-counts = refl;
+      })
+  receive-ends _ _ (opened h s k e g n o) = in-result _
+
+pub demand1 : Demand1
+demand1 =
+    record {
+      receive-pack = receive-ends;
+      write-pack = write-ends;
+      read-header = λ p. checked-ends headerNumbers (headerOf p) (λ n. header-number n p);
+      read-job = λ p. checked-ends packNumbers (jobOf p) (λ n. job-number n p);
+      read-air = λ p. checked-ends packNumbers (airOf p) (λ n. air-number n p);
+      encode = encode-ends;
+      extract = extract-ends;
+      read-data = read-ends;
+      is-data-zero = zero-ends;
+      is-code-cube = check-ends;
+      fill = fill-ends;
+      mend = mend-ends;
+      mend-axis = axis-ends;
+      write-air = air-ends;
+      measure = λ sh. checked-ends shapeNumbers (shapeChecked sh) (λ n. shape-number n sh);
+      pack-bytes = λ sh. checked-ends shapeNumbers (sizeChecked sh) (λ n. size-number n sh);
+      axis-line = λ sh axis m. checked-ends shapeNumbers (lineOf sh axis m) (λ n. line-number n sh axis m);
+    }

@@ -1,0 +1,147 @@
+-- The numbers by which each call's checks fail: they are in its list, none is of a packet, and all of them change no lent byte.
+use mathlib.Core.Path.{_≡_, refl}
+use mathlib.Core.Bool.{Bool, true, false, not}
+use mathlib.Core.List.{List}
+use Prim.Native.Nat.{ℕ}
+use borrow.Author.Tests.{not-true}
+use Rattle.answer.specs.Values.{Checked, passes, fails, check, andThen}
+use Rattle.answer.proofs.Values.{check-number, then-number, passes-number}
+use Rattle.shape.specs.declared.Shape.{Shape}
+use Rattle.shape.specs.declared.Sizes.{Sizes}
+use Rattle.shape.specs.Shapes.{both, shapeChecked, lineIn, lineOf}
+use Rattle.shape.proofs.Valid.{both-parts}
+use Rattle.cube.specs.Calls.{slicesChecked, cubeChecked, readChecked}
+use Rattle.fill.specs.Fill.{flagsChecked}
+use Rattle.mend.specs.Mend.{axisChecked, mendChecked, wholeChecked}
+use Rattle.pack.specs.Packs.{packSize}
+use Rattle.pack.specs.Reading.{headerOf, jobOf, airOf}
+use Rattle.pack.specs.Writing.{sizeChecked, airChecked}
+use Rattle.pack.proofs.Numbers.{shape-fails, header-fails, job-fails, air-fails}
+use Rattle.writer.specs.Write.{writeChecked}
+use Rattle.receiver.specs.Receive.{Memory, receiveChecked}
+use Rattle.demands.specs.Demand1.{shapeNumbers, cubeNumbers, fillNumbers, mendNumbers, headerNumbers, packNumbers, writerNumbers, receiverNumbers}
+use Rattle.demands.specs.Demand2.{earlyNumbers}
+use Rattle.demands.specs.Ends.{isOneOf, OneOf, ofPacket, keeping}
+
+-- a number of a list that names no packet and changes no lent byte
+pub record Plain (numbers : List ℕ) (n : ℕ) : Type 0 where
+  pub listed : OneOf numbers n
+  pub of-call : isOneOf ofPacket n ≡ false
+  pub keeps : OneOf keeping n
+
+-- the same as a test
+unfoldable isPlain : List ℕ → ℕ → Bool
+isPlain numbers n = both (isOneOf numbers n) (both (not (isOneOf ofPacket n)) (isOneOf keeping n))
+
+abbrev Test : List ℕ → ℕ → Type 0
+Test numbers n = isPlain numbers n ≡ true
+
+plain : (numbers : List ℕ) (n : ℕ) → Test numbers n → Plain numbers n
+unfolding isPlain OneOf
+plain numbers n e =
+    let (a, bc) = both-parts (isOneOf numbers n) _ e in
+    let (b, c) = both-parts (not (isOneOf ofPacket n)) (isOneOf keeping n) bc in
+    record { listed = a; of-call = not-true _ b; keeps = c }
+
+module _ (n : ℕ) where
+  -- ---- shapes and cubes
+
+  pub shape-number : (sh : Shape) → shapeChecked sh ≡ fails n → Plain shapeNumbers n
+  unfolding isPlain isOneOf ofPacket keeping both shapeNumbers
+  shape-number sh e = plain shapeNumbers n (shape-fails (Test shapeNumbers) n refl refl refl sh e)
+
+  pub size-number : (sh : Shape) → sizeChecked sh ≡ fails n → Plain shapeNumbers n
+  unfolding sizeChecked
+  size-number sh = then-number (Plain shapeNumbers) n _ _ (shape-number sh) (λ z. passes-number (Plain shapeNumbers) n (packSize sh))
+
+  pub line-number : (sh : Shape) (axis m : ℕ) → lineOf sh axis m ≡ fails n → Plain shapeNumbers n
+  unfolding lineOf lineIn isPlain isOneOf ofPacket keeping both shapeNumbers
+  line-number sh axis m =
+      let P = Plain shapeNumbers in
+      let one = plain shapeNumbers 1 refl in
+      check-number P n _ 1 _ one (then-number P n _ _ (shape-number sh) (λ z. check-number P n _ 1 _ one (passes-number P n _)))
+
+  -- 1, 2, 3 of the shape, then 4 by a test of its sizes
+  slices-fail : (test : Sizes → Bool) (sh : Shape)
+      → _≡_ {A = Checked Unit} (andThen (shapeChecked sh) (λ z. check (test z) 4 (passes tt))) (fails n) → Plain cubeNumbers n
+  unfolding isPlain isOneOf ofPacket keeping both cubeNumbers
+  slices-fail test sh e =
+      let P = Test cubeNumbers in
+      plain cubeNumbers n
+      (then-number P n _ _ (shape-fails P n refl refl refl sh) (λ z. check-number P n _ 4 _ refl (passes-number P n tt)) e)
+
+  pub slices-number : (sh : Shape) (d c : ℕ) → slicesChecked sh d c ≡ fails n → Plain cubeNumbers n
+  unfolding slicesChecked
+  slices-number sh d c = slices-fail _ sh
+
+  pub cube-number : (sh : Shape) (c : ℕ) → cubeChecked sh c ≡ fails n → Plain cubeNumbers n
+  unfolding cubeChecked
+  cube-number sh c = slices-fail _ sh
+
+  pub write-air-number : (sh : Shape) (c d : ℕ) → airChecked sh c d ≡ fails n → Plain cubeNumbers n
+  unfolding airChecked
+  write-air-number sh c d = slices-fail _ sh
+
+  pub axis-number : (sh : Shape) (axis c : ℕ) → axisChecked sh axis c ≡ fails n → Plain cubeNumbers n
+  unfolding axisChecked isPlain isOneOf ofPacket keeping both cubeNumbers
+  axis-number sh axis c = check-number (Plain cubeNumbers) n _ 1 _ (plain cubeNumbers 1 refl) (cube-number sh c)
+
+  pub read-number : (sh : Shape) (c d from to k : ℕ) → readChecked sh c d from to k ≡ fails n → Plain cubeNumbers n
+  unfolding readChecked isPlain isOneOf ofPacket keeping both cubeNumbers
+  read-number sh c d from to k e =
+      let P = Test cubeNumbers in
+      plain cubeNumbers n
+      (then-number P n _ _ (shape-fails P n refl refl refl sh)
+      (λ z. check-number P n _ 4 _ refl (check-number P n _ 4 _ refl (check-number P n _ 4 _ refl (passes-number P n tt)))) e)
+
+  pub fill-number : (sh : Shape) (c : ℕ) (fs : List ℕ) → flagsChecked sh c fs ≡ fails n → Plain fillNumbers n
+  unfolding flagsChecked isPlain isOneOf ofPacket keeping both fillNumbers
+  fill-number sh c fs e =
+      let P = Test fillNumbers in
+      plain fillNumbers n
+      (then-number P n _ _ (shape-fails P n refl refl refl sh)
+      (λ z. check-number P n _ 4 _ refl (check-number P n _ 5 _ refl (passes-number P n tt))) e)
+
+  pub mend-number : (sh : Shape) (c d : ℕ) (fs : List ℕ) → mendChecked sh c fs d ≡ fails n → Plain mendNumbers n
+  unfolding mendChecked wholeChecked isPlain isOneOf ofPacket keeping both mendNumbers
+  mend-number sh c d fs e =
+      let P = Test mendNumbers in
+      plain mendNumbers n
+      (then-number P n _ _ (shape-fails P n refl refl refl sh)
+      (λ z. check-number P n _ 4 _ refl (check-number P n _ 5 _ refl (check-number P n _ 15 _ refl (passes-number P n tt)))) e)
+
+  -- ---- packs
+
+  pub header-number : (p : List ℕ) → headerOf p ≡ fails n → Plain headerNumbers n
+  unfolding isPlain isOneOf ofPacket keeping both headerNumbers
+  header-number p e = plain headerNumbers n (header-fails (Test headerNumbers) n refl refl refl refl refl refl p e)
+
+  pub job-number : (p : List ℕ) → jobOf p ≡ fails n → Plain packNumbers n
+  unfolding isPlain isOneOf ofPacket keeping both packNumbers
+  job-number p e = plain packNumbers n (job-fails (Test packNumbers) n refl refl refl refl refl refl p refl refl e)
+
+  pub air-number : (p : List ℕ) → airOf p ≡ fails n → Plain packNumbers n
+  unfolding isPlain isOneOf ofPacket keeping both packNumbers
+  air-number p e = plain packNumbers n (air-fails (Test packNumbers) n refl refl refl refl refl refl p refl refl e)
+
+  pub write-number : (p : List ℕ) (c d : ℕ) → writeChecked p c d ≡ fails n → Plain writerNumbers n
+  unfolding writeChecked isPlain isOneOf ofPacket keeping both writerNumbers
+  write-number p c d e =
+      let P = Test writerNumbers in
+      plain writerNumbers n
+      (then-number P n _ _ (job-fails P n refl refl refl refl refl refl p refl refl)
+      (λ j. check-number P n _ 4 _ refl (passes-number P n j)) e)
+
+  receive-fails : (P : ℕ → Type 0) → P 6 → P 7 → P 1 → P 2 → P 3 → P 10 → P 9 → P 8 → P 4 → (p : List ℕ) (m : Memory) → receiveChecked p m ≡ fails n
+      → P n
+  unfolding receiveChecked
+  receive-fails P six seven one two three ten nine eight four p m =
+      then-number P n _ _ (air-fails P n six seven one two three ten p nine eight) (λ a. check-number P n _ 4 _ four (passes-number P n a))
+
+  pub receive-number : (p : List ℕ) (m : Memory) → receiveChecked p m ≡ fails n → Plain receiverNumbers n
+  unfolding isPlain isOneOf ofPacket keeping both receiverNumbers
+  receive-number p m e = plain receiverNumbers n (receive-fails (Test receiverNumbers) refl refl refl refl refl refl refl refl refl p m e)
+
+  pub early-number : (p : List ℕ) (m : Memory) → receiveChecked p m ≡ fails n → OneOf earlyNumbers n
+  unfolding OneOf isOneOf earlyNumbers
+  early-number = receive-fails (λ k. isOneOf earlyNumbers k ≡ true) refl refl refl refl refl refl refl refl refl

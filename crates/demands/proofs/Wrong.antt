@@ -1,0 +1,184 @@
+-- No promise allows the wrong outcomes of specs/Wrong.antt: by demand 3 a pack from which at most 26 cells are lost gives its file and nothing else,
+-- no packets leave all 27 cells, and the writer's cube has right lines.
+use mathlib.Core.Path.{_≡_, refl, sym, ap, _∙_}
+use mathlib.Core.Bool.{Bool, true, false, not, false≢true}
+use mathlib.Core.List.{List, [], _∷_}
+use mathlib.Core.Logic.{⊎-elim}
+use Prim.Native.Nat.{ℕ, zero, suc, _+_, _-_, _≤_, _<_}
+use native.Mathlib.Decide.{decLt}
+use native.Mathlib.Omega.{arith}
+use lib.ListN.{length, getD, drop, length-drop}
+use lib.Seq.{getD-drop}
+use Rattle.answer.specs.Values.{Value, gives}
+use Rattle.answer.proofs.Values.{gives-refused}
+use Rattle.field.specs.Field.{reduction, add}
+use Rattle.shape.specs.declared.Shape.{Shape}
+use Rattle.shape.specs.Shapes.{Valid, cells, capacity, cell, IsLine, along, axis1}
+use Rattle.shape.proofs.Geometry.{cell-coordinates}
+use Rattle.line.specs.Line.{syndrome0}
+use Rattle.cube.specs.Cube.{layer, layerLine}
+use Rattle.cube.specs.Encoded.{encoded}
+use Rattle.stopping.specs.Stopping.{number}
+use Rattle.stopping.proofs.Number.{true-or-false, number-in, number-out, number-nil, number-le}
+use Rattle.pack.specs.declared.Section.{Section}
+use Rattle.pack.specs.Packs.{wordBytes, jobPack, airPack, packetOf, everyPacket, padded, dataString}
+use Rattle.pack.specs.Packets.{packetNo, sourceOf}
+use Rattle.pack.proofs.Written.{air-read, job-read, everyPacket-length, everyPacket-at}
+use Rattle.pack.specs.Reading.{headerFor}
+use Rattle.writer.specs.Write.{WriteOutcome}
+use Rattle.receiver.specs.declared.Counts.{Counts}
+use Rattle.receiver.specs.Gathering.{Reception, file, left}
+use Rattle.receiver.specs.Receive.{Memory, ReceiveOutcome}
+use Rattle.receiver.specs.Theorems.{NoPackets}
+use Rattle.receiver.proofs.Arrivals.{earlier-among}
+use Rattle.receiver.proofs.NoPackets.{no-packets}
+use Rattle.demands.specs.Demand3.{Wrote, AllWritten, Heard, sent, lost, Lent, Demand3}
+use Rattle.demands.specs.Wrong.{small, packetsFrom, parityLeft, Excluded, wrong, AllExcluded}
+use Rattle.demands.proofs.Writing.{done-written, fitting-wrote}
+use Rattle.demands.proofs.Demand3.{lent-passes, demand3}
+use Rattle.demands.proofs.Corollaries.{few-lost}
+
+-- ---- the packets of a cube, all but the first k
+
+module _ (sh : Shape) (x : List ℕ) (k : ℕ) where
+  part-length : length (drop k (everyPacket sh x)) ≡ cells sh - k
+  part-length = length-drop k (everyPacket sh x) ∙ ap (λ (n : ℕ). n - k) (everyPacket-length sh x)
+
+  part-at : (i : ℕ) → i < length (drop k (everyPacket sh x)) → packetNo (drop k (everyPacket sh x)) i ≡ packetOf sh x (k + i)
+  unfolding packetNo
+  part-at i l =
+      getD-drop k (everyPacket sh x) i _ ∙ everyPacket-at sh x (k + i) (omega (arith, part-length))
+
+  part-heard : (contents output : List ℕ) (s : Section) → AllWritten sh contents x output s → cells sh < 4294967296
+      → Heard sh output s (drop k (everyPacket sh x))
+  part-heard contents output s all few =
+      record {
+        written = λ i l.
+            let inside : k + i < cells sh = omega (arith, part-length) in
+            (k + i, omega (arith, all .count), part-at i l ∙ sym (all .every (k + i) inside));
+        count = omega (arith, part-length);
+      }
+
+  part-place : (i : ℕ) → i < length (drop k (everyPacket sh x)) → sourceOf sh (drop k (everyPacket sh x)) .place i ≡ k + i
+  unfolding sourceOf packetOf
+  part-place i l = rw (part-at i l) (cell-coordinates sh (k + i))
+
+  -- only the first k cells are lost
+  part-lost : (n : ℕ) → n < cells sh → lost sh (drop k (everyPacket sh x)) n ≡ true → n < k
+  unfolding lost sent
+  part-lost n l e =
+      elim (decLt n k) [
+        | yes less ↦ less
+        | no more ↦
+            let inside : n - k < length (drop k (everyPacket sh x)) = omega (arith, part-length) in
+            let same : sourceOf sh (drop k (everyPacket sh x)) .place (n - k) ≡ n = part-place (n - k) inside ∙ omega arith in
+            let came : sent sh (drop k (everyPacket sh x)) n ≡ true =
+            ap (sent sh (drop k (everyPacket sh x))) (sym same) ∙ earlier-among (sourceOf sh (drop k (everyPacket sh x))) _ (n - k) inside in
+            absurd (false≢true (ap not (sym came) ∙ e))
+      ]
+
+-- a set with no member from k on has at most k
+number-front : (P : ℕ → Bool) (k n : ℕ) → ((i : ℕ) → i < n → P i ≡ true → i < k) → number P n ≤ k
+number-front P k zero h = omega (arith, number-nil P)
+number-front P k (suc n) h =
+    ⊎-elim
+    (λ (e : P n ≡ true). omega (arith, number-in P n e, number-le P n, h n (omega arith) e))
+    (λ (e : P n ≡ false). omega (arith, number-out P n e, number-front P k n (λ i l. h i (omega arith))))
+    (true-or-false (P n))
+
+-- ---- the example
+
+small-valid : Valid small
+unfolding small cells
+small-valid =
+    record {
+      l1-low = omega arith;
+      l1-high = omega arith;
+      l2-low = omega arith;
+      l2-high = omega arith;
+      l3-low = omega arith;
+      l3-high = omega arith;
+      w-low = omega arith;
+      w-high = omega arith;
+      volume = omega arith;
+    }
+
+small-cells : cells small ≡ 27
+unfolding small cells
+small-cells = refl
+
+small-room : 5 ≤ capacity small
+unfolding small capacity
+small-room = omega arith
+
+-- a file of one byte fits
+module _ (b : ℕ) (byte : b < 256) where
+  one-byte : (i : ℕ) → getD (b ∷ []) i 0 < 256
+  one-byte zero = byte
+  one-byte (suc i) = omega arith
+
+  small-wrote : Wrote (jobPack small (b ∷ [])) small (b ∷ []) (encoded reduction small (dataString small (b ∷ [])))
+      (airPack small (everyPacket small (encoded reduction small (dataString small (b ∷ [])))))
+  small-wrote = fitting-wrote small small-valid (b ∷ []) small-room one-byte
+
+  module _ (m m′ : Memory) (value : Value Reception) (counts : Counts) (l : Lent small m) where
+    -- with 26 cells lost or fewer the file comes back
+    comes-back : (k : ℕ) → k ≤ 26 → ReceiveOutcome reduction (packetsFrom k (b ∷ [])) m m′ value counts
+        → (value ≡ gives (file 1)) × (m′ .buffer ≡ b ∷ drop 1 (m .buffer))
+    unfolding packetsFrom Demand3
+    comes-back k few o =
+        let x = encoded reduction small (dataString small (b ∷ [])) in
+        let (s, all, exact) = demand3 _ small (b ∷ []) x _ small-wrote in
+        let heard = part-heard small x k _ _ s all (omega (arith, small-cells)) in
+        let front = number-front (lost small (drop k (everyPacket small x))) k (cells small) (part-lost small x k) in
+        few-lost (exact (drop k (everyPacket small x)) m m′ value counts heard l o) (omega arith)
+
+-- with no packet every cell is left
+all-left : (m m′ : Memory) (value : Value Reception) (counts : Counts) → Lent small m → ReceiveOutcome reduction (airPack small []) m m′ value counts
+    → value ≡ gives (left 27)
+unfolding NoPackets headerFor
+all-left m m′ value counts l o =
+    let (c, read, carries) = air-read small [] small-valid (omega (arith, small-room)) (λ i less. absurd (omega arith)) (omega arith) in
+    no-packets reduction (airPack small []) m m′ value counts (headerFor small) c (lent-passes (airPack small []) small c m read l) (carries .count) o
+    ∙ ap (λ (k : ℕ). gives (left k)) small-cells
+
+-- ---- the wrong outcomes
+
+left-file : (k n : ℕ) → gives (left k) ≡ gives (file n) → ⊥
+left-file k n e = let z : _≡_ {A = ℕ} 0 1 = cc in omega arith
+
+other-left : (k n : ℕ) → gives (left k) ≡ gives (left n) → k ≡ n
+other-left k n e = cc
+
+other-file : (b c : ℕ) (bs cs ds : List ℕ) → bs ≡ b ∷ cs → bs ≡ c ∷ ds → b ≡ c
+other-file b c bs cs ds p q = cc
+
+-- the first line of axis 1 in layer 0 is 01 00 00 (h)
+no-parity : (xs out : List ℕ)
+    → WriteOutcome reduction (jobPack small (0x08 ∷ [])) xs out (parityLeft (0x08 ∷ [])) (airPack small (everyPacket small (parityLeft (0x08 ∷ [])))) (gives tt) → ⊥
+unfolding small cell layerLine layer parityLeft dataString padded wordBytes capacity syndrome0 add
+no-parity xs out o =
+    let (s, job, filed) = job-read small (0x08 ∷ []) small-valid small-room in
+    let w = done-written _ xs out _ _ small s job o in
+    let line : IsLine small (cell small 0 0 0) 1 (small .l1) = along (axis1 0 0 (omega arith) (omega arith)) in
+    let sum : _≡_ {A = ℕ} 1 0 = w .cube .code .lines (cell small 0 0 0) 1 (small .l1) line 0 (omega arith) .first in
+    omega arith
+
+pub wrong-excluded : AllExcluded wrong
+unfolding AllExcluded Excluded wrong
+wrong-excluded = (
+  λ m m′ counts l o. left-file 1 1 (comes-back 0x08 (omega arith) m m′ _ counts l 1 (omega arith) o .0),
+  (
+    λ m m′ counts l o. let e = other-left 26 27 (all-left m m′ _ counts l o) in omega arith,
+    (
+      λ m m′ counts l o. gives-refused (file 1) 13 (sym (comes-back 0x08 (omega arith) m m′ _ counts l 1 (omega arith) o .0)),
+      (
+        λ m m′ counts l is o.
+            let back = comes-back 0x09 (omega arith) m m′ _ counts l 0 (omega arith) o in
+            let same = other-file 0x08 0x09 (m′ .buffer) [] (drop 1 (m .buffer)) is (back .1) in
+            omega arith,
+        (λ m m′ value counts l none o. none (file 1) (comes-back 0x08 (omega arith) m m′ value counts l 0 (omega arith) o .0), (no-parity, tt)),
+      ),
+    ),
+  ),
+)

@@ -1,0 +1,138 @@
+-- The first demand: "A pack, written by anyone and cut or damaged in any way, ends in a file, a count of places left or a numbered refusal from
+-- the table in document 01. The same goes for a cube or buffer handed to any public call; what each refusal returns and leaves in lent memory is
+-- fixed there." For every input of each call, and for every outcome that its contract allows.
+use mathlib.Core.Path.{_≡_}
+use mathlib.Core.Bool.{Bool}
+use mathlib.Core.List.{List, [], _∷_}
+use Prim.Native.Nat.{ℕ}
+use lib.ListN.{length, replicate}
+use Rattle.answer.specs.Values.{Value, gives, checked}
+use Rattle.field.specs.Field.{reduction}
+use Rattle.shape.specs.declared.Shape.{Shape}
+use Rattle.shape.specs.declared.Sizes.{Sizes}
+use Rattle.shape.specs.declared.Line.{Line}
+use Rattle.shape.specs.Shapes.{shapeChecked, lineOf}
+use Rattle.shape.specs.Flags.{missing}
+use Rattle.cube.specs.Calls.{EncodeOutcome, ExtractOutcome, ReadOutcome, ZeroOutcome, CheckOutcome}
+use Rattle.fill.specs.Fill.{CellsLeft, Cleared, FillOutcome}
+use Rattle.mend.specs.Mend.{MendOutcome, AxisOutcome}
+use Rattle.pack.specs.declared.Cursor.{Cursor}
+use Rattle.pack.specs.declared.Header.{Header}
+use Rattle.pack.specs.declared.Section.{Section}
+use Rattle.pack.specs.Reading.{headerOf, jobOf, airOf}
+use Rattle.pack.specs.Writing.{sizeChecked, AirOutcome}
+use Rattle.writer.specs.Write.{WriteOutcome}
+use Rattle.receiver.specs.declared.Counts.{Counts}
+use Rattle.receiver.specs.Gathering.{Reception, noCounts}
+use Rattle.receiver.specs.Receive.{Memory, ReceiveOutcome}
+use Rattle.demands.specs.Ends.{OneOf, keeping, Ends, Keeps, OnlyReads}
+use Rattle.demands.specs.Placed.{BeforeFilling}
+
+-- ---- what a refusal leaves in lent memory, where a call has a number that changes some
+
+pub record FillLeaves (sh : Shape) (xs fs xs′ fs′ : List ℕ) (n : ℕ) : Type 0 where
+  -- "Numbers 1 to 11 and 15 change no lent byte"
+  pub kept : OneOf keeping n → (xs′ ≡ xs) × (fs′ ≡ fs)
+  -- "13: missing cells 00h, flags as before filling."
+  pub contradiction : n ≡ 13 → Cleared sh xs (missing fs) xs′ × (fs′ ≡ fs)
+
+pub record MendLeaves (before after : List ℕ) (n : ℕ) : Type 0 where
+  pub kept : OneOf keeping n → after ≡ before
+  -- "16: second cube all 00h."
+  pub uncorrected : n ≡ 16 → after ≡ replicate (length before) 0
+
+pub record ReceiveLeaves (p : List ℕ) (m m′ : Memory) (counts : Counts) (n : ℕ) : Type 0 where
+  pub kept : OneOf keeping n → (m′ .cube ≡ m .cube) × (m′ .flags ≡ m .flags)
+  -- "12: cube all 00h, flags all 1."
+  pub conflict : n ≡ 12 → (m′ .cube ≡ replicate (length (m .cube)) 0) × (m′ .flags ≡ replicate (length (m .flags)) 1)
+  -- "13: missing cells 00h, flags as before filling."
+  pub contradiction : n ≡ 13 →
+      (b : BeforeFilling p m) × Cleared (b .header .shape) (b .cube) (missing (b .flags)) (m′ .cube) × (m′ .flags ≡ b .flags)
+  -- "14: cube and flags as filled."
+  pub bad-file : n ≡ 14 →
+      (b : BeforeFilling p m)
+      × FillOutcome reduction (b .header .shape) (b .cube) (b .flags) (m′ .cube) (m′ .flags) (gives (CellsLeft.left 0))
+  -- "The file buffer never changes on a refusal."
+  pub buffer : m′ .buffer ≡ m .buffer
+  -- "all counts with it are 0"
+  pub no-counts : counts ≡ noCounts
+
+-- ---- the numbers that a call can give, in the table's order
+
+-- of a call that takes a shape
+unfoldable pub shapeNumbers : List ℕ
+shapeNumbers = 1 ∷ 2 ∷ 3 ∷ []
+
+-- and slices
+unfoldable pub cubeNumbers : List ℕ
+cubeNumbers = 1 ∷ 2 ∷ 3 ∷ 4 ∷ []
+
+unfoldable pub fillNumbers : List ℕ
+fillNumbers = 1 ∷ 2 ∷ 3 ∷ 4 ∷ 5 ∷ 13 ∷ []
+
+unfoldable pub mendNumbers : List ℕ
+mendNumbers = 1 ∷ 2 ∷ 3 ∷ 4 ∷ 5 ∷ 15 ∷ 16 ∷ []
+
+-- of a reader of section 1
+unfoldable pub headerNumbers : List ℕ
+headerNumbers = 6 ∷ 7 ∷ 1 ∷ 2 ∷ 3 ∷ 10 ∷ []
+
+-- of a reader of the whole pack
+unfoldable pub packNumbers : List ℕ
+packNumbers = 6 ∷ 7 ∷ 1 ∷ 2 ∷ 3 ∷ 10 ∷ 9 ∷ 8 ∷ []
+
+unfoldable pub writerNumbers : List ℕ
+writerNumbers = 6 ∷ 7 ∷ 1 ∷ 2 ∷ 3 ∷ 10 ∷ 9 ∷ 8 ∷ 4 ∷ []
+
+unfoldable pub receiverNumbers : List ℕ
+receiverNumbers = 6 ∷ 7 ∷ 1 ∷ 2 ∷ 3 ∷ 10 ∷ 9 ∷ 8 ∷ 4 ∷ 11 ∷ 12 ∷ 13 ∷ 14 ∷ []
+
+-- ---- the demand, call by call
+
+pub record Demand1 : Type 0 where
+  -- "A pack, written by anyone and cut or damaged in any way, ends in a file, a count of places left or a numbered refusal"
+  pub receive-pack :
+      (p : List ℕ) (m m′ : Memory) (value : Value Reception) (counts : Counts) → ReceiveOutcome reduction p m m′ value counts →
+      Ends receiverNumbers (ReceiveLeaves p m m′ counts) value
+  pub write-pack :
+      (p xs out xs′ out′ : List ℕ) (value : Value Unit) → WriteOutcome reduction p xs out xs′ out′ value →
+      Ends writerNumbers (λ n. Keeps xs xs′ n × Keeps out out′ n) value
+  pub read-header :
+      (p : List ℕ) (value : Value (Header × Cursor)) → value ≡ checked (headerOf p) → Ends headerNumbers OnlyReads value
+  pub read-job :
+      (p : List ℕ) (value : Value (Header × Section)) → value ≡ checked (jobOf p) → Ends packNumbers OnlyReads value
+  pub read-air :
+      (p : List ℕ) (value : Value (Header × Section)) → value ≡ checked (airOf p) → Ends packNumbers OnlyReads value
+  -- "The same goes for a cube or buffer handed to any public call"
+  pub encode :
+      (sh : Shape) (ds before after : List ℕ) (value : Value Unit) → EncodeOutcome reduction sh ds before after value →
+      Ends cubeNumbers (Keeps before after) value
+  pub extract :
+      (sh : Shape) (xs before after : List ℕ) (value : Value Unit) → ExtractOutcome sh xs before after value →
+      Ends cubeNumbers (Keeps before after) value
+  pub read-data :
+      (sh : Shape) (xs : List ℕ) (from to n : ℕ) (before after : List ℕ) (value : Value Unit) → ReadOutcome sh xs from to n before after value →
+      Ends cubeNumbers (Keeps before after) value
+  pub is-data-zero :
+      (sh : Shape) (xs : List ℕ) (from : ℕ) (value : Value Bool) → ZeroOutcome sh xs from value → Ends cubeNumbers OnlyReads value
+  pub is-code-cube :
+      (sh : Shape) (xs : List ℕ) (value : Value Bool) → CheckOutcome reduction sh xs value → Ends cubeNumbers OnlyReads value
+  pub fill :
+      (sh : Shape) (xs fs xs′ fs′ : List ℕ) (value : Value CellsLeft) → FillOutcome reduction sh xs fs xs′ fs′ value →
+      Ends fillNumbers (FillLeaves sh xs fs xs′ fs′) value
+  pub mend :
+      (sh : Shape) (xs fs before after : List ℕ) (value : Value Unit) → MendOutcome reduction sh xs fs before after value →
+      Ends mendNumbers (MendLeaves before after) value
+  pub mend-axis :
+      (sh : Shape) (axis : ℕ) (before after : List ℕ) (value : Value Unit) → AxisOutcome reduction sh axis before after value →
+      Ends cubeNumbers (Keeps before after) value
+  pub write-air :
+      (sh : Shape) (xs before after : List ℕ) (value : Value Unit) → AirOutcome sh xs before after value →
+      Ends cubeNumbers (Keeps before after) value
+  -- the sizes and lines of a shape
+  pub measure :
+      (sh : Shape) (value : Value Sizes) → value ≡ checked (shapeChecked sh) → Ends shapeNumbers OnlyReads value
+  pub pack-bytes :
+      (sh : Shape) (value : Value ℕ) → value ≡ checked (sizeChecked sh) → Ends shapeNumbers OnlyReads value
+  pub axis-line :
+      (sh : Shape) (axis m : ℕ) (value : Value Line) → value ≡ checked (lineOf sh axis m) → Ends shapeNumbers OnlyReads value

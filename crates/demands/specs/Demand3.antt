@@ -1,0 +1,133 @@
+-- The third demand (document 01, "Packs"), clause by clause.
+use mathlib.Core.Path.{_≡_}
+use mathlib.Core.Bool.{Bool, true, false, not}
+use mathlib.Core.List.{List, _++_}
+use mathlib.Core.Logic.{_≢_, _↔_}
+use Prim.Native.Nat.{ℕ, _+_, _-_, _*_, _^_, _≤_, _<_}
+use lib.ListN.{length, getD, drop}
+use Rattle.answer.specs.Values.{Value, gives, refused, refused-at, passes}
+use Rattle.field.specs.Field.{reduction}
+use Rattle.shape.specs.declared.Shape.{Shape}
+use Rattle.shape.specs.Shapes.{Valid, cells, capacity, IsLine}
+use Rattle.shape.specs.Flags.{missing, flagsValid}
+use Rattle.stopping.specs.Stopping.{number, Stopping, Largest}
+use Rattle.cube.specs.Theorems.{OnlyCodeCube}
+use Rattle.fill.specs.Fill.{Cleared}
+use Rattle.pack.specs.declared.Section.{Section}
+use Rattle.pack.specs.Packs.{Packet, jobPack, airPack, packetOf, packSize, dataString}
+use Rattle.pack.specs.Packets.{packetIn, packetNo, sourceOf}
+use Rattle.pack.specs.Reading.{headerFor, jobOf, airOf, fileOf}
+use Rattle.writer.specs.Write.{WriteOutcome}
+use Rattle.receiver.specs.declared.Counts.{Counts}
+use Rattle.receiver.specs.Placing.{among}
+use Rattle.receiver.specs.Gathering.{Reception, file, left}
+use Rattle.receiver.specs.Receive.{Memory, ReceiveOutcome}
+
+-- ---- what the writer wrote
+
+-- "the writer takes a file when the table below has no refusal for its call": the job pack p has this shape and file, and the call, lent any
+-- slices, ends without a refusal. It leaves the cube x and its output.
+pub record Wrote (p : List ℕ) (sh : Shape) (contents x output : List ℕ) : Type 0 where
+  pub section : Section
+  pub job : jobOf p ≡ passes (headerFor sh, section)
+  pub held : contents ≡ fileOf p section
+  pub cube-before : List ℕ
+  pub output-before : List ℕ
+  pub done : WriteOutcome reduction p cube-before output-before x output (gives tt)
+
+-- "the packets written are then all that the form above asks for, with the code cube's bytes": the output is itself read as an air pack, with the
+-- shape and "every cell in cell order", and x is the one code cube of the file.
+pub record AllWritten (sh : Shape) (contents x output : List ℕ) (s : Section) : Type 0 where
+  pub read : airOf output ≡ passes (headerFor sh, s)
+  pub count : s .count ≡ cells sh
+  pub every : (n : ℕ) → n < cells sh → packetIn output (headerFor sh) s n ≡ packetOf sh x n
+  pub cube : OnlyCodeCube reduction sh (dataString sh contents) x
+
+-- ---- what is heard of it
+
+-- "any list of the packets written that the count can hold: none, some or all of them, in any order, each any number of times"
+pub record Heard (sh : Shape) (output : List ℕ) (s : Section) (ps : List Packet) : Type 0 where
+  pub written : (i : ℕ) → i < length ps → (n : ℕ) × (n < s .count) × (packetNo ps i ≡ packetIn output (headerFor sh) s n)
+  pub count : length ps < 2 ^ 32
+
+-- the list has a packet for the cell n
+unfoldable pub sent : Shape → List Packet → ℕ → Bool
+sent sh ps n = among (sourceOf sh ps) (length ps) n
+
+-- "it is lost when that list has no packet for it"
+unfoldable pub lost : Shape → List Packet → ℕ → Bool
+lost sh ps n = not (sent sh ps n)
+
+-- a set of lost cells "that meets every line of the cube in none or at least three"
+unfoldable pub LostSet : Shape → List Packet → (ℕ → Bool) → Type 0
+LostSet sh ps s = Stopping (cells sh) (IsLine sh) (lost sh ps) s
+
+-- "no such nonempty set exists"
+unfoldable pub OnlyEmpty : Shape → List Packet → Type 0
+OnlyEmpty sh ps = (s : ℕ → Bool) → LostSet sh ps s → (n : ℕ) → n < cells sh → s n ≡ false
+
+-- ---- what the receiver gives
+
+-- "lent memory having the exact sizes", whatever it holds
+pub record Lent (sh : Shape) (m : Memory) : Type 0 where
+  pub cube : length (m .cube) ≡ sh .w * cells sh
+  pub flags : length (m .flags) ≡ cells sh
+  pub buffer : length (m .buffer) ≡ capacity sh - 4
+
+-- "Its count of places left": "the answer File stands for a count of 0"
+unfoldable pub leftIn : Value Reception → ℕ
+leftIn (gives (file n)) = 0
+leftIn (gives (left k)) = k
+leftIn (refused n) = 0
+leftIn (refused-at n i) = 0
+
+-- No refusal, an exact count, and the file exactly where nothing is left.
+pub record Exact (sh : Shape) (contents x : List ℕ) (ps : List Packet) (m m′ : Memory) (value : Value Reception) (counts : Counts) : Type 0 where
+  -- "the receiver gives no refusal"
+  pub answered : (a : Reception) × (value ≡ gives a)
+  -- "Its count of places left is the size of the largest set of lost places that meets every line of the cube in none or at least three":
+  -- the cells flagged afterwards are such a set, every other is inside it, and none is larger.
+  pub size : leftIn value ≡ number (missing (m′ .flags)) (cells sh)
+  pub largest : Largest (cells sh) (IsLine sh) (lost sh ps) (missing (m′ .flags))
+  pub most : (s : ℕ → Bool) → LostSet sh ps s → number s (cells sh) ≤ leftIn value
+  -- "The count is 0 exactly when no such nonempty set exists"
+  pub none-exactly : (leftIn value ≡ 0) ↔ OnlyEmpty sh ps
+  -- "and the file then comes back byte for byte", the rest of the buffer kept
+  pub file-back : leftIn value ≡ 0 →
+      (value ≡ gives (file (length contents))) × (m′ .buffer ≡ contents ++ drop (length contents) (m .buffer))
+  -- "Otherwise the count is 27 or more, and the file buffer stays as it was."
+  pub otherwise : leftIn value ≢ 0 → (27 ≤ leftIn value) × (value ≡ gives (left (leftIn value))) × (m′ .buffer ≡ m .buffer)
+  -- "cube and flags stand as Filling has them": the code cube with 00h in the cells left, which are flagged 1, all others 0
+  pub cube : Cleared sh x (missing (m′ .flags)) (m′ .cube)
+  pub flags : length (m′ .flags) ≡ cells sh
+  pub flags-valid : flagsValid (m′ .flags) ≡ true
+  -- "File and Left also carry the packet count and the repeats": the repeats are the packets less the different cells among them
+  pub packets : counts .packets ≡ length ps
+  pub repeats : counts .repeats + number (sent sh ps) (cells sh) ≡ length ps
+
+-- Demand 3, whole: "The receiver's pack has section 1 as written, section 2 count 0 and, as section 3, any list of the packets written".
+unfoldable pub Demand3 : Type 0
+Demand3 =
+    (p : List ℕ) (sh : Shape) (contents x output : List ℕ) → Wrote p sh contents x output →
+    (s : Section) × AllWritten sh contents x output s
+    × ((ps : List Packet) (m m′ : Memory) (value : Value Reception) (counts : Counts) →
+    Heard sh output s ps → Lent sh m → ReceiveOutcome reduction (airPack sh ps) m m′ value counts →
+    Exact sh contents x ps m m′ value counts)
+
+-- ---- it is not empty
+
+-- Every file of bytes that fits a valid shape is taken: the writer, given the job pack of shape and file and slices of the exact lengths, has no
+-- refusal, and there is an outcome.
+pub record FileTaken (sh : Shape) (contents : List ℕ) : Type 0 where
+  pub no-refusal :
+      (xs out x output : List ℕ) (value : Value Unit) → length xs ≡ sh .w * cells sh → length out ≡ packSize sh →
+      WriteOutcome reduction (jobPack sh contents) xs out x output value →
+      (value ≡ gives tt) × Wrote (jobPack sh contents) sh contents x output
+  pub x : List ℕ
+  pub output : List ℕ
+  pub wrote : Wrote (jobPack sh contents) sh contents x output
+
+unfoldable pub EveryFileTaken : Type 0
+EveryFileTaken =
+    (sh : Shape) → Valid sh → (contents : List ℕ) → 4 + length contents ≤ capacity sh → ((i : ℕ) → getD contents i 0 < 256) →
+    FileTaken sh contents

@@ -1,0 +1,40 @@
+-- How a call may end: with its result, or with a refusal of the table in document 01, what that refusal returns, and what it leaves in lent
+-- memory. One type for all calls.
+use mathlib.Core.Path.{_≡_}
+use mathlib.Core.Bool.{Bool, true, false, cond}
+use mathlib.Core.List.{List, [], _∷_}
+use Prim.Native.Nat.{ℕ}
+use lib.Dec.{eqb}
+use Rattle.answer.specs.Values.{Value, gives, refused, refused-at}
+
+-- n is one of a list of numbers
+unfoldable pub isOneOf : List ℕ → ℕ → Bool
+isOneOf [] n = false
+isOneOf (m ∷ ms) n = cond (eqb m n) true (isOneOf ms n)
+
+unfoldable pub OneOf : List ℕ → ℕ → Type 0
+OneOf ns n = isOneOf ns n ≡ true
+
+-- "A refusal names its number and, for a packet, the packet's index from 0": those of a packet are 11 and 12.
+unfoldable pub ofPacket : List ℕ
+ofPacket = 11 ∷ 12 ∷ []
+
+-- "Numbers 1 to 11 and 15 change no lent byte"
+unfoldable pub keeping : List ℕ
+keeping = 1 ∷ 2 ∷ 3 ∷ 4 ∷ 5 ∷ 6 ∷ 7 ∷ 8 ∷ 9 ∷ 10 ∷ 11 ∷ 15 ∷ []
+
+-- The call ends in a result, or in one of `numbers`, with the packet's index exactly where the number is of a packet; n leaves `Leaves n`.
+pub data Ends {A : Type 0} (numbers : List ℕ) (Leaves : ℕ → Type 0) : Value A → Type 0 where
+  in-result : (a : A) → Ends numbers Leaves (gives a)
+  in-refusal :
+      (n : ℕ) → OneOf numbers n → isOneOf ofPacket n ≡ false → Leaves n → Ends numbers Leaves (refused n)
+  in-packet :
+      (n i : ℕ) → OneOf numbers n → OneOf ofPacket n → Leaves n → Ends numbers Leaves (refused-at n i)
+
+-- What the refusals of a call leave that changes no lent byte with any of its numbers: `after`, the slice it writes to, is as it was
+abbrev pub Keeps : List ℕ → List ℕ → ℕ → Type 0
+Keeps before after n = after ≡ before
+
+-- of a call that writes to no slice
+abbrev pub OnlyReads : ℕ → Type 0
+OnlyReads n = Unit

@@ -1,0 +1,45 @@
+-- The receiver's endings as words.
+use mathlib.Core.Path.{_≡_, refl, sym, ap}
+use Prim.Native.Nat.{ℕ, _+_, _*_}
+use Rattle.answer.specs.declared.Refusal.{Refusal}
+use Rattle.answer.specs.declared.Refusal.the-variants.{Plain, Packet}
+use Rattle.answer.specs.Values.{refusal, numberOf, placeOf}
+use Rattle.receiver.specs.declared.Ending.{Ending}
+use Rattle.receiver.specs.declared.Ending.the-variants.{File, Left, Refused}
+use Rattle.receiver.specs.Gathering.{Reception}
+use Rattle.receiver.specs.Receive.{endingValue}
+use Rattle.jibrufath.specs.Exports.{beside, packed}
+use Rattle.jibrufath.specs.Packs.{receptionLeft, fileBytes}
+use Rattle.jibrufath.proofs.Words.{packed-result, refusal-number, refusal-beside}
+
+module _ (e : Ending) where
+  pub left-beside : (n : ℕ) → e ≡ Left n → beside receptionLeft (endingValue e) ≡ n
+  unfolding beside receptionLeft endingValue
+  left-beside n q = rw q
+
+  pub refused-beside : (f : Refusal) → e ≡ Refused f → beside receptionLeft (endingValue e) ≡ placeOf {A = Unit} (refusal f)
+  unfolding endingValue
+  refused-beside f q = rw q (refusal-beside receptionLeft f)
+
+  pub file-word : (n : ℕ) → e ≡ File n → 0 ≡ packed receptionLeft (endingValue e)
+  unfolding endingValue receptionLeft
+  file-word n q = sym (packed-result receptionLeft _ _ (ap endingValue q))
+
+  pub left-word : (n : ℕ) → e ≡ Left n → 256 * n ≡ packed receptionLeft (endingValue e)
+  unfolding endingValue receptionLeft
+  left-word n q = sym (packed-result receptionLeft _ _ (ap endingValue q))
+
+  pub refused-word : (f : Refusal) (number place : ℕ) → e ≡ Refused f → number ≡ numberOf {A = Unit} (refusal f)
+      → place ≡ placeOf {A = Unit} (refusal f) → number + 256 * place ≡ packed receptionLeft (endingValue e)
+  unfolding packed endingValue
+  refused-word f number place q n k = rw (q, n, k, refusal-number Reception f, refusal-beside receptionLeft f)
+
+-- no file comes out with a refusal
+no-file : (f : Refusal) → 0 ≡ fileBytes (refusal f)
+unfolding fileBytes refusal
+no-file (Plain f) = refl
+no-file (Packet f i) = refl
+
+pub refused-file : (e : Ending) (f : Refusal) → e ≡ Refused f → 0 ≡ fileBytes (endingValue e)
+unfolding endingValue
+refused-file e f q = rw q (no-file f)

@@ -1,0 +1,154 @@
+-- Packets that name a cell: the tests of `packet`, and what a pack that was read needs of them.
+use mathlib.Core.Path.{_≡_, refl, sym, ap, _∙_}
+use mathlib.Core.Bool.{Bool, true, false, cond, false≢true}
+use mathlib.Core.List.{List}
+use Prim.Native.Nat.{ℕ, _+_, _*_, _^_, _≤_, _<_}
+use native.Mathlib.Nat.{mul-le-mul}
+use native.Mathlib.Omega.{arith}
+use lib.Dec.{leb, ltb}
+use lib.ListN.{length, getD}
+use borrow.Author.Tests.{leb-true, le-leb, ltb-true, lt-ltb}
+use Rattle.answer.specs.Values.{passes}
+use Rattle.shape.specs.declared.Shape.{Shape}
+use Rattle.shape.specs.Shapes.{both, cells}
+use Rattle.shape.proofs.Valid.{both-parts, both-true}
+use Rattle.shape.proofs.Geometry.{cell-lt-cells}
+use Rattle.span.proofs.Stretches.{stretch-end}
+use Rattle.pack.specs.declared.Section.{Section}
+use Rattle.pack.specs.declared.Header.{Header}
+use Rattle.pack.specs.declared.PacketRead.{PacketRead}
+use Rattle.pack.specs.declared.PacketRead.the-variants.{Names, Absent}
+use Rattle.pack.specs.Reading.{packetSize, airOf}
+use Rattle.pack.specs.Packets.{packetAt, source, InRange, Named, PacketOutcome, named, unnamed}
+use Rattle.pack.specs.Inner.Packets.{withinLimits, packetFrom}
+use Rattle.pack.proofs.Sound.{air-sound, packets-le}
+
+-- ---- the tests of `packet`
+
+pub record Limits (sh : Shape) (i : ℕ) : Type 0 where
+  pub l1-high : sh .l1 ≤ 255
+  pub l2-high : sh .l2 ≤ 255
+  pub w-high : sh .w ≤ 1024
+  pub index : i < 2 ^ 32
+
+pub limits-parts : (sh : Shape) (i : ℕ) → withinLimits sh i ≡ true → Limits sh i
+unfolding withinLimits
+limits-parts sh i t =
+    let (a, bcd) = both-parts (leb (sh .l1) 255) _ t in
+    let (b, cd) = both-parts (leb (sh .l2) 255) _ bcd in
+    let (c, d) = both-parts (leb (sh .w) 1024) (ltb i 4294967296) cd in
+    record { l1-high = leb-true _ _ a; l2-high = leb-true _ _ b; w-high = leb-true _ _ c; index = ltb-true _ _ d }
+
+limits-true : (sh : Shape) (i : ℕ) → Limits sh i → withinLimits sh i ≡ true
+unfolding withinLimits
+limits-true sh i l =
+    both-true _ _ (le-leb _ _ (l .l1-high)) (both-true _ _ (le-leb _ _ (l .l2-high)) (both-true _ _ (le-leb _ _ (l .w-high)) (lt-ltb i 4294967296 (l .index))))
+
+-- the products of the limits fit a machine word
+pub ahead-le : (sh : Shape) (i : ℕ) → Limits sh i → i * (3 + sh .w) ≤ 4410931411965
+ahead-le sh i l = packets-le i (sh .w) (l .index) (l .w-high)
+
+pub cell-small : (l2 b c : ℕ) → l2 ≤ 255 → b < 256 → c < 256 → l2 * c ≤ 65025
+cell-small l2 b c h p q = let m : c ≤ 255 = omega arith in mul-le-mul h m
+
+pub cell-fits : (l1 l2 b c : ℕ) → l1 ≤ 255 → l2 ≤ 255 → b < 256 → c < 256 → l1 * (b + l2 * c) ≤ 16646400
+cell-fits l1 l2 b c g h p q =
+    let m : b + l2 * c ≤ 65280 = omega (arith, cell-small l2 b c h p q) in
+    mul-le-mul g m
+
+-- check 11 as one test
+unfoldable coordinates : List ℕ → Header → Section → ℕ → Bool
+coordinates p h s i =
+    both (ltb (getD p (packetAt h s i) 0) (h .shape .l1))
+    (both (ltb (getD p (packetAt h s i + 1) 0) (h .shape .l2)) (ltb (getD p (packetAt h s i + 2) 0) (h .shape .l3)))
+
+module _ (p : List ℕ) (h : Header) (s : Section) (i : ℕ) where
+  pub beyond-limits : withinLimits (h .shape) i ≡ false → PacketOutcome p h s i Absent
+  beyond-limits t =
+      unnamed (λ (n : Named p h s i).
+      false≢true (sym t ∙ limits-true (h .shape) i (record { l1-high = n .l1-high; l2-high = n .l2-high; w-high = n .w-high; index = n .index })))
+
+  pub beyond-pack : length p < s .at + i * (3 + h .shape .w) + (3 + h .shape .w) → PacketOutcome p h s i Absent
+  unfolding packetAt packetSize
+  beyond-pack l =
+      unnamed (λ (n : Named p h s i).
+      let m : s .at + i * (3 + h .shape .w) + (3 + h .shape .w) ≤ length p = n .inside in omega arith)
+
+  module _ (l : Limits (h .shape) i) (inside : packetAt h s i + packetSize h ≤ length p) where
+    within-pack : (t : Bool) → coordinates p h s i ≡ t
+        → PacketOutcome p h s i (cond t (Names (source p h s .place i) (packetAt h s i + 3)) Absent)
+    unfolding coordinates
+    within-pack true e =
+        let (a, bc) = both-parts (ltb (getD p (packetAt h s i) 0) (h .shape .l1)) _ e in
+        let (b, c) = both-parts (ltb (getD p (packetAt h s i + 1) 0) (h .shape .l2)) (ltb (getD p (packetAt h s i + 2) 0) (h .shape .l3)) bc in
+        named (record {
+          l1-high = l .l1-high;
+          l2-high = l .l2-high;
+          w-high = l .w-high;
+          index = l .index;
+          inside = inside;
+          range = record { first = ltb-true _ _ a; second = ltb-true _ _ b; third = ltb-true _ _ c };
+        })
+    within-pack false e =
+        unnamed (λ (n : Named p h s i).
+        let r = n .range in
+        false≢true (sym e ∙ both-true _ _ (lt-ltb _ _ (r .first)) (both-true _ _ (lt-ltb _ _ (r .second)) (lt-ltb _ _ (r .third)))))
+
+  pub packet-outcome : (r : PacketRead) → withinLimits (h .shape) i ≡ true
+      → s .at + i * (3 + h .shape .w) + (3 + h .shape .w) ≤ length p
+      → r ≡ packetFrom p (h .shape) (s .at + i * (3 + h .shape .w)) → PacketOutcome p h s i r
+  unfolding packetAt packetSize packetFrom source coordinates
+  packet-outcome r t inside e = rw e (within-pack (limits-parts (h .shape) i t) inside (coordinates p h s i) refl)
+
+-- ---- for callers
+
+-- a packet that stands in its pack and names a cell is answered so
+pub packet-named : (p : List ℕ) (h : Header) (s : Section) (i : ℕ) (r : PacketRead) → PacketOutcome p h s i r → Named p h s i
+    → r ≡ Names (source p h s .place i) (packetAt h s i + 3)
+packet-named p h s i r (named n) m = refl
+packet-named p h s i r (unnamed never) m = absurd (never m)
+
+pub packet-names : (p : List ℕ) (h : Header) (s : Section) (i n from : ℕ) (r : PacketRead) → PacketOutcome p h s i r → r ≡ Names n from
+    → Named p h s i
+packet-names p h s i n from r (named m) e = m
+packet-names p h s i n from r (unnamed never) e = let z : _≡_ {A = ℕ} 0 1 = cc in absurd (omega arith)
+
+pub packet-absent : (p : List ℕ) (h : Header) (s : Section) (i : ℕ) (r : PacketRead) → PacketOutcome p h s i r → r ≡ Absent
+    → Named p h s i → ⊥
+packet-absent p h s i r (named m) e = let z : _≡_ {A = ℕ} 0 1 = cc in absurd (omega arith)
+packet-absent p h s i r (unnamed never) e = never
+
+-- all packets of a pack that was read stand in it: they name a cell where a, b and c are below their lengths
+pub air-named : (p : List ℕ) (h : Header) (s : Section) (i : ℕ) → airOf p ≡ passes (h, s) → ((k : ℕ) → getD p k 0 < 256) → i < s .count
+    → InRange p h s i → Named p h s i
+unfolding packetAt
+air-named p h s i e small l r =
+    let sound = air-sound p h s e in
+    let v = sound .header .valid in
+    record {
+      l1-high = v .l1-high;
+      l2-high = v .l2-high;
+      w-high = v .w-high;
+      index = omega (arith, sound .few small);
+      inside = omega (arith, sound .ends, stretch-end i (s .count) (packetSize h) l);
+      range = r;
+    }
+
+-- the cell that a packet in range names is one of the cube's
+pub place-lt : (p : List ℕ) (h : Header) (s : Section) (i : ℕ) → InRange p h s i → source p h s .place i < cells (h .shape)
+unfolding source
+place-lt p h s i r = cell-lt-cells (h .shape) _ _ _ (r .first) (r .second) (r .third)
+
+-- what a caller learns of a packet that is answered: the cell that it names, and where its bytes stand
+pub record Told (p : List ℕ) (h : Header) (s : Section) (i n from : ℕ) : Type 0 where
+  pub cell : n ≡ source p h s .place i
+  pub byte : (w : ℕ) → getD p (from + w) 0 ≡ source p h s .byte i w
+  pub inside : from + h .shape .w ≤ length p
+
+pub packet-told : (p : List ℕ) (h : Header) (s : Section) (i n from : ℕ) (r : PacketRead) → PacketOutcome p h s i r → r ≡ Names n from
+    → Told p h s i n from
+unfolding source packetSize
+packet-told p h s i n from r (named m) e =
+    let begins : packetAt h s i + 3 ≡ from = cc in
+    record { cell = cc; byte = λ w. ap (λ (k : ℕ). getD p (k + w) 0) (sym begins); inside = omega (arith, m .inside) }
+packet-told p h s i n from r (unnamed never) e = let z : _≡_ {A = ℕ} 0 1 = cc in absurd (omega arith)

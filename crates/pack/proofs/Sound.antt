@@ -1,0 +1,165 @@
+-- What a pack that was read says of its header and its section, and what a caller of a reader learns from its answer.
+use mathlib.Core.Path.{_≡_, sym, ap}
+use mathlib.Core.List.{List}
+use Prim.Native.Nat.{ℕ, _+_, _*_, _^_, _≤_, _<_}
+use native.Mathlib.Nat.{mul-le-mul}
+use native.Mathlib.Omega.{arith}
+use lib.ListN.{length, getD}
+use borrow.Author.Tests.{leb-true, eqb-true}
+use Rattle.answer.specs.declared.Refusal.{Refusal}
+use Rattle.answer.specs.Values.{Checked, passes, checked, refusal}
+use Rattle.answer.proofs.Values.{passes-injective, check-passed, checked-passes, then-passed}
+use Rattle.shape.specs.declared.Shape.{Shape}
+use Rattle.shape.specs.Shapes.{Valid, capacity, sizes, shapeChecked}
+use Rattle.shape.proofs.Valid.{shape-passed}
+use Rattle.pack.specs.declared.Cursor.{Cursor}
+use Rattle.pack.specs.declared.Section.{Section}
+use Rattle.pack.specs.declared.Header.{Header}
+use Rattle.pack.specs.declared.HeaderRead.{HeaderRead}
+use Rattle.pack.specs.declared.HeaderRead.the-variants.{Headed, Refused as NoHeader}
+use Rattle.pack.specs.declared.JobRead.{JobRead}
+use Rattle.pack.specs.declared.JobRead.the-variants.{Job, Refused as NoJob}
+use Rattle.pack.specs.declared.AirRead.{AirRead}
+use Rattle.pack.specs.declared.AirRead.the-variants.{Air, Refused as NoAir}
+use Rattle.pack.specs.Packs.{word}
+use Rattle.pack.specs.Reading.{count, bytes, end, headed, headerOf, headerValue, packetSize, jobBehind, jobOf, jobValue, airBehind, airOf, airValue}
+use Rattle.pack.proofs.Steps.{word-lt}
+
+-- ---- a step that passed
+
+module _ {A : Type 0} (p : List ℕ) (c : Cursor) (a : A) where
+  count-passed : (next : ℕ → Cursor → Checked A) → count p c next ≡ passes a
+      → (c .at + 4 ≤ length p) × (next (word p (c .at)) (record { at = c .at + 4 }) ≡ passes a)
+  unfolding count
+  count-passed next e = let (t, rest) = check-passed _ 6 _ a e in (leb-true _ _ t, rest)
+
+  bytes-passed : (n : ℕ) (next : ℕ → Cursor → Checked A) → bytes p c n next ≡ passes a
+      → (c .at + n ≤ length p) × (next (c .at) (record { at = c .at + n }) ≡ passes a)
+  unfolding bytes
+  bytes-passed n next e = let (t, rest) = check-passed _ 6 _ a e in (leb-true _ _ t, rest)
+
+  end-passed : (done : Checked A) → end p c done ≡ passes a → (length p ≡ c .at) × (done ≡ passes a)
+  unfolding end
+  end-passed done e = let (t, rest) = check-passed _ 8 _ a e in (eqb-true _ _ t, rest)
+
+-- ---- section 1
+
+-- a header that was read has a valid shape, its sizes, and room for the file's length
+pub record HeaderSound (h : Header) : Type 0 where
+  pub valid : Valid (h .shape)
+  pub measured : h .sizes ≡ sizes (h .shape)
+  pub room : 4 ≤ capacity (h .shape)
+
+headed-sound : (sh : Shape) (next : Cursor) (h : Header) (c : Cursor) → headed sh next ≡ passes (h, c) → HeaderSound h
+unfolding headed sizes
+headed-sound sh next h c e =
+    let (z, passed, rest) = then-passed (shapeChecked sh) _ (h, c) e in
+    let (v, same) = shape-passed sh z passed in
+    let (t, told) = check-passed _ 10 _ (h, c) rest in
+    let header : h ≡ record { shape = sh; sizes = z } = sym (ap (λ (x : Header × Cursor). x .0) (passes-injective _ _ told)) in
+    let four : 4 ≤ capacity sh = rw same at (leb-true 4 (z .capacity) t) in
+    record { valid = rw header v; measured = rw header same; room = rw header four }
+
+pub header-sound : (p : List ℕ) (h : Header) (c : Cursor) → headerOf p ≡ passes (h, c) → HeaderSound h
+unfolding headerOf
+header-sound p h c e =
+    let (_, judged) = count-passed p (record { at = 0 }) (h, c) _ e in
+    let (_, needed) = check-passed _ 7 _ (h, c) judged in
+    let (_, read) = bytes-passed p (record { at = 4 }) (h, c) _ _ needed in
+    headed-sound _ _ h c read
+
+-- ---- the readers' answers
+
+module _ (p : List ℕ) (r : HeaderRead) (e : headerValue r ≡ checked (headerOf p)) where
+  pub header-told : (h : Header) (c : Cursor) → r ≡ Headed h c → headerOf p ≡ passes (h, c)
+  unfolding headerValue
+  header-told h c q = checked-passes (headerOf p) (h, c) (rw q at e)
+
+  pub header-refused : (f : Refusal) → r ≡ NoHeader f → refusal {A = Header × Cursor} f ≡ checked (headerOf p)
+  unfolding headerValue
+  header-refused f q = rw q at e
+
+module _ (p : List ℕ) (r : JobRead) (e : jobValue r ≡ checked (jobOf p)) where
+  pub job-told : (h : Header) (s : Section) → r ≡ Job h s → jobOf p ≡ passes (h, s)
+  unfolding jobValue
+  job-told h s q = checked-passes (jobOf p) (h, s) (rw q at e)
+
+  pub job-refused : (f : Refusal) → r ≡ NoJob f → refusal {A = Header × Section} f ≡ checked (jobOf p)
+  unfolding jobValue
+  job-refused f q = rw q at e
+
+module _ (p : List ℕ) (r : AirRead) (e : airValue r ≡ checked (airOf p)) where
+  pub air-told : (h : Header) (s : Section) → r ≡ Air h s → airOf p ≡ passes (h, s)
+  unfolding airValue
+  air-told h s q = checked-passes (airOf p) (h, s) (rw q at e)
+
+  pub air-refused : (f : Refusal) → r ≡ NoAir f → refusal {A = Header × Section} f ≡ checked (airOf p)
+  unfolding airValue
+  air-refused f q = rw q at e
+
+-- ---- sections 2 and 3
+
+-- a job that was read: the file fits its cube, and its bytes lie in the pack
+pub record JobSound (p : List ℕ) (h : Header) (s : Section) : Type 0 where
+  pub header : HeaderSound h
+  pub room : 4 + s .count ≤ capacity (h .shape)
+  pub inside : s .at + s .count ≤ length p
+
+job-behind-sound : (p : List ℕ) (g h : Header) (c : Cursor) (s : Section) → HeaderSound g → jobBehind p g c ≡ passes (h, s) → JobSound p h s
+unfolding jobBehind sizes
+job-behind-sound p g h c s sound e =
+    let n = word p (c .at) in
+    let (_, judged) = count-passed p c (h, s) _ e in
+    let (t, needed) = check-passed _ 10 _ (h, s) judged in
+    let (inside, third) = bytes-passed p _ (h, s) n _ needed in
+    let (_, packets) = count-passed p _ (h, s) _ third in
+    let (_, ended) = check-passed _ 9 _ (h, s) packets in
+    let (_, told) = end-passed p _ (h, s) _ ended in
+    let same : _≡_ {A = Header × Section} (g, record { at = c .at + 4; count = n }) (h, s) = passes-injective _ _ told in
+    let header : h ≡ g = sym (ap (λ (x : Header × Section). x .0) same) in
+    let section : s ≡ record { at = c .at + 4; count = n } = sym (ap (λ (x : Header × Section). x .1) same) in
+    let room : 4 + n ≤ capacity (g .shape) = rw (sound .measured) at (leb-true (4 + n) (g .sizes .capacity) t) in
+    record { header = rw header sound; room = rw (header, section) room; inside = rw section inside }
+
+pub job-sound : (p : List ℕ) (h : Header) (s : Section) → jobOf p ≡ passes (h, s) → JobSound p h s
+unfolding jobOf
+job-sound p h s e =
+    let ((g, c), passed, rest) = then-passed (headerOf p) _ (h, s) e in
+    job-behind-sound p g h c s (header-sound p g c passed) rest
+
+-- an air pack that was read: its packets end the pack
+pub record AirSound (p : List ℕ) (h : Header) (s : Section) : Type 0 where
+  pub header : HeaderSound h
+  pub ends : s .at + s .count * packetSize h ≡ length p
+  pub few : ((i : ℕ) → getD p i 0 < 256) → s .count < 2 ^ 32
+
+air-behind-sound : (p : List ℕ) (g h : Header) (c : Cursor) (s : Section) → HeaderSound g → airBehind p g c ≡ passes (h, s) → AirSound p h s
+unfolding airBehind
+air-behind-sound p g h c s sound e =
+    let n = word p (c .at + 4) in
+    let (_, judged) = count-passed p c (h, s) _ e in
+    let (_, third) = check-passed _ 9 _ (h, s) judged in
+    let (_, needed) = count-passed p _ (h, s) _ third in
+    let (_, ended) = bytes-passed p _ (h, s) (n * packetSize g) _ needed in
+    let (ends, told) = end-passed p _ (h, s) _ ended in
+    let same : _≡_ {A = Header × Section} (g, record { at = c .at + 4 + 4; count = n }) (h, s) = passes-injective _ _ told in
+    let header : h ≡ g = sym (ap (λ (x : Header × Section). x .0) same) in
+    let section : s ≡ record { at = c .at + 4 + 4; count = n } = sym (ap (λ (x : Header × Section). x .1) same) in
+    record {
+      header = rw header sound;
+      ends = rw (header, section) (sym ends);
+      few = λ small. rw section (word-lt p (c .at + 4) small);
+    }
+
+pub air-sound : (p : List ℕ) (h : Header) (s : Section) → airOf p ≡ passes (h, s) → AirSound p h s
+unfolding airOf
+air-sound p h s e =
+    let ((g, c), passed, rest) = then-passed (headerOf p) _ (h, s) e in
+    air-behind-sound p g h c s (header-sound p g c passed) rest
+
+-- the packets that a count can hold fit a machine word
+pub packets-le : (n w : ℕ) → n < 2 ^ 32 → w ≤ 1024 → n * (3 + w) ≤ 4410931411965
+packets-le n w p q =
+    let m : n ≤ 4294967295 = omega arith in
+    let k : 3 + w ≤ 1027 = omega arith in
+    mul-le-mul m k

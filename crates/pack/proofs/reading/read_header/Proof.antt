@@ -1,0 +1,90 @@
+-- `pack::reading::read_header` meets its contract: 7 is judged before the five bytes are needed. Assumes nothing.
+use native.Mathlib.Omega.{arith}
+use borrow.Author.Tests.{eq-eqb, ne-eqb}
+use Rattle.answer.specs.Refusals.{faultNumber}
+use Rattle.answer.specs.Values.{refusal, check, checked}
+use Rattle.pack.specs.Reading.{headerOf, headerValue}
+use Rattle.pack.proofs.Steps.{count-read, count-cut, bytes-read, bytes-cut, bytes-known}
+use borrow.Author.Needs.{needs}
+use Rattle.pack.proofs.reading.read_header.Statement.{statement}
+use Rattle.pack.proofs.reading.read_header.Tie as tie
+
+count-requires : tie.Need-count-requires
+count-requires c κs = search needs
+
+enum-known-counted : tie.Need-enum-known-counted
+enum-known-counted c = search needs
+
+enum-told : tie.Need-enum-told
+enum-told c = search needs
+
+returns : tie.Need-returns
+unfolding headerOf headerValue refusal faultNumber check checked
+returns c = rw (count-cut _ _ _ (c .before .before .count .ensures) (c .enum-told .given .1))
+
+returns-2 : tie.Need-returns-2
+unfolding headerOf headerValue refusal faultNumber check checked
+returns-2 c =
+    let first = c .before .before in
+    rw (count-read _ _ _ (first .before .before .count .ensures) _ _ (first .counted .given .1), ne-eqb _ _ (c .if1 .taken))
+
+bytes-requires : tie.Need-bytes-requires
+bytes-requires c κs = search needs
+
+enum-known-section : tie.Need-enum-known-section
+enum-known-section c = search needs
+
+enum-told-2 : tie.Need-enum-told-2
+enum-told-2 c = search needs
+
+returns-3 : tie.Need-returns-3
+unfolding headerOf headerValue refusal faultNumber check checked
+returns-3 c =
+    let read = c .before .before in
+    let first = read .before .before .before in
+    rw (
+      count-read _ _ _ (first .before .before .count .ensures) _ _ (first .counted .given .1),
+      eq-eqb _ _ (read .before .if1 .left),
+      bytes-cut _ _ _ _ (read .bytes .ensures) (c .enum-told2 .given .1),
+    )
+
+shape-at-requires : tie.Need-shape-at-requires
+shape-at-requires c κs =
+    let section = c .before in
+    let read = section .before .before in
+    let (inside, at, _) = bytes-known _ _ _ _ (read .bytes .ensures) _ _ (section .section .given .1) in
+    omega (arith, read .before .if1 .left)
+
+headed-requires : tie.Need-headed-requires
+headed-requires c κs = search needs
+
+returns-4 : tie.Need-returns-4
+unfolding headerOf check
+returns-4 c =
+    let section = c .before .before .before in
+    let read = section .before .before in
+    let first = read .before .before .before in
+    rw (
+      count-read _ _ _ (first .before .before .count .ensures) _ _ (first .counted .given .1),
+      eq-eqb _ _ (read .before .if1 .left),
+      bytes-read _ _ _ _ (read .bytes .ensures) _ _ (section .section .given .1),
+      ← c .before .shape-at .ensures,
+    )
+    (c .headed .ensures)
+
+pub read-header-spec : {M : Type 1} → statement M
+read-header-spec =
+    tie.close
+    (tie.spec
+    count-requires
+    enum-known-counted
+    enum-told
+    returns
+    returns-2
+    bytes-requires
+    enum-known-section
+    enum-told-2
+    returns-3
+    shape-at-requires
+    headed-requires
+    returns-4)

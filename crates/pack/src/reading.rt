@@ -1,0 +1,155 @@
+// Reading a pack: for everybody section 1, for the writer a file, for the receiver packets. Checks in the order of document 01's table.
+use crate::AirRead;
+use crate::BytesRead;
+use crate::CountRead;
+use crate::Cursor;
+use crate::Header;
+use crate::HeaderRead;
+use crate::JobRead;
+use crate::Section;
+use crate::wide;
+use answer::Fault;
+use answer::Refusal;
+use shape::Measured;
+use shape::Shape;
+ghost use mathlib.Core.Path.{_≡_};
+ghost use Prim.Native.Nat.{_+_, _≤_};
+ghost use lib.ListN.{length};
+ghost use Rattle.answer.specs.Values.{checked};
+ghost use Rattle.pack.specs.Reading.{shapeAt, headed, headerOf, headerValue, jobBehind, jobOf, jobValue, airBehind, airOf, airValue};
+
+// Section 1 and the shape it holds.
+pub fn read_header(pack: &[u8]) -> HeaderRead
+    ensures { λ r. ⌜ headerValue r ≡ checked (headerOf (now (pack .entry))) ⌝ }
+{
+    let start = Cursor { at: 0 };
+    let counted = start.count(pack);
+    let CountRead::Count(n, body) = counted else {
+        return HeaderRead::Refused(Refusal::Plain(Fault::Truncated));
+    };
+    if n != 5 {
+        return HeaderRead::Refused(Refusal::Plain(Fault::HeaderCount));
+    }
+    let section = body.bytes(pack, n);
+    let BytesRead::Bytes(at, next) = section else {
+        return HeaderRead::Refused(Refusal::Plain(Fault::Truncated));
+    };
+    headed(shape_at(pack, at), next)
+}
+
+// The whole pack as the writer reads it.
+pub fn read_job(pack: &[u8]) -> JobRead
+    ensures { λ r. ⌜ jobValue r ≡ checked (jobOf (now (pack .entry))) ⌝ }
+{
+    match read_header(pack) {
+        HeaderRead::Refused(f) => JobRead::Refused(f),
+        HeaderRead::Headed(h, next) => job_behind(pack, h, next),
+    }
+}
+
+// The whole pack as the receiver reads it.
+pub fn read_air(pack: &[u8]) -> AirRead
+    ensures { λ r. ⌜ airValue r ≡ checked (airOf (now (pack .entry))) ⌝ }
+{
+    match read_header(pack) {
+        HeaderRead::Refused(f) => AirRead::Refused(f),
+        HeaderRead::Headed(h, next) => air_behind(pack, h, next),
+    }
+}
+
+// The five bytes of section 1.
+fn shape_at(pack: &[u8], at: usize) -> Shape
+    requires { ⌜ at + 5 ≤ length (now pack) ⌝ }
+    ensures { λ r. ⌜ r ≡ shapeAt (now (pack .entry)) at ⌝ }
+{
+    Shape {
+        l1: wide(pack[at]),
+        l2: wide(pack[at + 1]),
+        l3: wide(pack[at + 2]),
+        w: wide(pack[at + 3]) + 256 * wide(pack[at + 4]),
+    }
+}
+
+// The shape's checks, and room for the file's length.
+fn headed(sh: Shape, next: Cursor) -> HeaderRead
+    ensures { λ r. ⌜ headerValue r ≡ checked (headed sh next) ⌝ }
+{
+    match shape::measure(sh) {
+        Measured::Refused(f) => HeaderRead::Refused(f),
+        Measured::Fits(z) => {
+            let capacity = z.capacity;
+            if capacity < 4 {
+                return HeaderRead::Refused(Refusal::Plain(Fault::Capacity));
+            }
+            HeaderRead::Headed(
+                Header {
+                    shape: sh,
+                    sizes: z,
+                },
+                next,
+            )
+        }
+    }
+}
+
+// The writer's sections 2 and 3, behind the header.
+fn job_behind(pack: &[u8], h: Header, second: Cursor) -> JobRead
+    ensures { λ r. ⌜ jobValue r ≡ checked (jobBehind (now (pack .entry)) h second) ⌝ }
+{
+    let counted = second.count(pack);
+    let CountRead::Count(n, file) = counted else {
+        return JobRead::Refused(Refusal::Plain(Fault::Truncated));
+    };
+    let sizes = h.sizes;
+    if sizes.capacity < 4 + n {
+        return JobRead::Refused(Refusal::Plain(Fault::Capacity));
+    }
+    let section = file.bytes(pack, n);
+    let BytesRead::Bytes(at, third) = section else {
+        return JobRead::Refused(Refusal::Plain(Fault::Truncated));
+    };
+    let recounted = third.count(pack);
+    let CountRead::Count(packets, rest) = recounted else {
+        return JobRead::Refused(Refusal::Plain(Fault::Truncated));
+    };
+    if packets != 0 {
+        return JobRead::Refused(Refusal::Plain(Fault::SectionCount));
+    }
+    if pack.len() != rest.at {
+        return JobRead::Refused(Refusal::Plain(Fault::TrailingBytes));
+    }
+    JobRead::Job(h, Section { at: at, count: n })
+}
+
+// The receiver's sections 2 and 3, behind the header.
+fn air_behind(pack: &[u8], h: Header, second: Cursor) -> AirRead
+    requires { ⌜ h .shape .w ≤ 1024 ⌝ }
+    ensures { λ r. ⌜ airValue r ≡ checked (airBehind (now (pack .entry)) h second) ⌝ }
+{
+    let counted = second.count(pack);
+    let CountRead::Count(n, third) = counted else {
+        return AirRead::Refused(Refusal::Plain(Fault::Truncated));
+    };
+    if n != 0 {
+        return AirRead::Refused(Refusal::Plain(Fault::SectionCount));
+    }
+    let recounted = third.count(pack);
+    let CountRead::Count(packets, body) = recounted else {
+        return AirRead::Refused(Refusal::Plain(Fault::Truncated));
+    };
+    let sh = h.shape;
+    let section = body.bytes(pack, packets * (3 + sh.w));
+    let BytesRead::Bytes(at, end) = section else {
+        return AirRead::Refused(Refusal::Plain(Fault::Truncated));
+    };
+    if pack.len() != end.at {
+        return AirRead::Refused(Refusal::Plain(Fault::TrailingBytes));
+    }
+    AirRead::Air(
+        h,
+        Section {
+            at: at,
+            count: packets,
+        },
+    )
+}

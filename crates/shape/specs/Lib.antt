@@ -1,0 +1,3 @@
+-- What a reader of the crate `shape` must believe.
+pub mod Shapes
+pub mod Flags

@@ -1,3 +1,0 @@
--- Why the crate `text` meets its contracts: text behind text (`Appending`), and numbers as digits (`Numerals`).
-pub mod Appending
-pub mod Numerals

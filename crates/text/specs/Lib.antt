@@ -1,3 +1,0 @@
--- What a reader of the crate `text` must believe.
-pub mod Text
-pub mod Append

@@ -1,0 +1,123 @@
+/* Measures the stack that each call takes: runs it on a painted stack and looks how deep the paint is gone, over shapes of every kind.
+ * cc -std=c99 -Iinclude examples/c/stack.c target/staticlib/libjibrufath.a -o stack */
+#define _XOPEN_SOURCE 600
+#include "jibrufath.h"
+
+#include <stdio.h>
+#include <stdlib.h>
+#include <string.h>
+#include <ucontext.h>
+
+enum { STACK = 1 << 18, PAINT = 0xA5 };
+enum call { NOTHING, ENCODE, EXTRACT, CHECK, FILL, MEND, MEND_AXIS, WRITE_PACK, RECEIVE_PACK, NEEDS, SIZES, FIELD, CALLS };
+
+static const char *const names[CALLS] = {"", "encode", "extract", "is_code_cube", "fill", "mend", "mend_axis", "write_pack", "receive_pack", "needs",
+    "sizes", "field"};
+
+static const uint64_t shapes[][4] = {{3, 3, 3, 5}, {5, 5, 5, 16}, {4, 4, 4, 63}, {12, 12, 8, 20}, {9, 9, 9, 1024}, {255, 3, 3, 1024},
+    {3, 255, 3, 1024}, {3, 3, 255, 1024}, {255, 255, 3, 1}, {20, 20, 10, 397}, {40, 40, 40, 64}, {69, 69, 25, 397}};
+
+/* A shape, its sizes, and the memory that its calls are lent. */
+static uint64_t l1, l2, l3, w, cells, bytes, capacity, output_len, job_len;
+static uint8_t *cube, *second, *flags, *data, *file, *output, *job;
+static enum call measured;
+static uint64_t answer;
+
+static uint8_t stack[STACK];
+static ucontext_t here, there;
+
+static void make_call(void)
+{
+    uint64_t places[16];
+    switch (measured) {
+    case ENCODE: answer = jibrufath_encode(data, capacity, cube, bytes, l1, l2, l3, w); break;
+    case EXTRACT: answer = jibrufath_extract(cube, bytes, data, capacity, l1, l2, l3, w); break;
+    case CHECK: answer = jibrufath_is_code_cube(cube, bytes, l1, l2, l3, w); break;
+    case FILL: answer = jibrufath_fill(cube, bytes, flags, cells, l1, l2, l3, w); break;
+    case MEND: answer = jibrufath_mend(cube, bytes, flags, cells, second, bytes, l1, l2, l3, w); break;
+    case MEND_AXIS: answer = jibrufath_mend_axis(cube, bytes, l1, l2, l3, w, 2); break;
+    case WRITE_PACK: answer = jibrufath_write_pack(job, job_len, cube, bytes, output, output_len); break;
+    case RECEIVE_PACK:
+        answer = jibrufath_receive_pack(output, output_len, cube, bytes, flags, cells, file, capacity - 4, places);
+        break;
+    case NEEDS: answer = jibrufath_needs(job, job_len, places); break;
+    case SIZES: answer = jibrufath_pack_bytes(l1, l2, l3, w); break;
+    case FIELD: answer = (uint64_t)jibrufath_mul(jibrufath_inverse(3), jibrufath_pow(200)) << 8; break;
+    default: break;
+    }
+}
+
+/* How much of the painted stack a call takes, with what it takes to come there. */
+static size_t deepest(enum call call)
+{
+    size_t kept = 0;
+    measured = call;
+    memset(stack, PAINT, STACK);
+    getcontext(&there);
+    there.uc_stack.ss_sp = stack;
+    there.uc_stack.ss_size = STACK;
+    there.uc_link = &here;
+    makecontext(&there, make_call, 0);
+    swapcontext(&here, &there);
+    while (kept < STACK && stack[kept] == PAINT)
+        kept++;
+    return STACK - kept;
+}
+
+static uint8_t *lend(uint64_t len)
+{
+    uint8_t *memory = malloc(len);
+    if (memory == NULL)
+        exit(1);
+    memset(memory, 0, len);
+    return memory;
+}
+
+/* Lends all memory for a shape, with a job pack of the longest file. */
+static void begin(const uint64_t shape[4])
+{
+    l1 = shape[0], l2 = shape[1], l3 = shape[2], w = shape[3];
+    cells = jibrufath_count(jibrufath_cells(l1, l2, l3, w));
+    bytes = jibrufath_count(jibrufath_cube_bytes(l1, l2, l3, w));
+    capacity = jibrufath_count(jibrufath_capacity(l1, l2, l3, w));
+    output_len = jibrufath_count(jibrufath_pack_bytes(l1, l2, l3, w));
+    cube = lend(bytes), second = lend(bytes), flags = lend(cells), data = lend(capacity), file = lend(capacity - 4);
+    output = lend(output_len);
+    job_len = 17 + capacity - 4;
+    job = lend(job_len);
+    job[0] = 5, job[4] = (uint8_t)l1, job[5] = (uint8_t)l2, job[6] = (uint8_t)l3, job[7] = (uint8_t)w, job[8] = (uint8_t)(w >> 8);
+    for (int i = 0; i < 4; i++)
+        job[9 + i] = (uint8_t)((capacity - 4) >> (8 * i));
+    for (uint64_t i = 0; i < capacity; i++)
+        data[i] = (uint8_t)(i * 31 + 7);
+}
+
+/* What a call is to work on: a code cube with cells to fill or a wrong byte to mend. */
+static void prepare(enum call call)
+{
+    jibrufath_encode(data, capacity, cube, bytes, l1, l2, l3, w);
+    for (uint64_t cell = 0; cell < cells; cell++)
+        flags[cell] = call == FILL && cell * 2654435761u / 128 % 10 < 3;
+    if (call == MEND || call == MEND_AXIS)
+        cube[bytes / 2] ^= 5;
+}
+
+int main(void)
+{
+    size_t most[CALLS] = {0};
+    for (size_t i = 0; i < sizeof shapes / sizeof *shapes; i++) {
+        begin(shapes[i]);
+        size_t before = deepest(NOTHING);
+        for (enum call call = ENCODE; call < CALLS; call++) {
+            prepare(call);
+            size_t taken = deepest(call) - before;
+            most[call] = taken > most[call] ? taken : most[call];
+            if (jibrufath_number(answer) != JIBRUFATH_OK)
+                return 1;
+        }
+        free(cube), free(second), free(flags), free(data), free(file), free(output), free(job);
+    }
+    for (enum call call = ENCODE; call < CALLS; call++)
+        printf("%s %zu\n", names[call], most[call]);
+    return 0;
+}

@@ -1,0 +1,107 @@
+//! The exported calls as include/jibrufath.h declares them.
+
+#[cfg(not(all(
+    target_arch = "x86_64",
+    target_os = "linux",
+    target_pointer_width = "64"
+)))]
+compile_error!("the static library holds machine code for 64-bit x86-64 Linux");
+
+unsafe extern "C" {
+    pub safe fn jibrufath_cells(l1: u64, l2: u64, l3: u64, w: u64) -> u64;
+    pub safe fn jibrufath_cube_bytes(l1: u64, l2: u64, l3: u64, w: u64) -> u64;
+    pub safe fn jibrufath_capacity(l1: u64, l2: u64, l3: u64, w: u64) -> u64;
+    pub safe fn jibrufath_pack_bytes(l1: u64, l2: u64, l3: u64, w: u64) -> u64;
+
+    pub fn jibrufath_needs(pack: *const u8, pack_len: u64, needs: *mut [u64; 16]) -> u64;
+
+    pub fn jibrufath_write_pack(
+        job: *const u8,
+        job_len: u64,
+        cube: *mut u8,
+        cube_len: u64,
+        output: *mut u8,
+        output_len: u64,
+    ) -> u64;
+
+    pub fn jibrufath_receive_pack(
+        air: *const u8,
+        air_len: u64,
+        cube: *mut u8,
+        cube_len: u64,
+        flags: *mut u8,
+        flags_len: u64,
+        file: *mut u8,
+        file_len: u64,
+        counts: *mut [u64; 16],
+    ) -> u64;
+
+    pub fn jibrufath_encode(
+        data: *const u8,
+        data_len: u64,
+        cube: *mut u8,
+        cube_len: u64,
+        l1: u64,
+        l2: u64,
+        l3: u64,
+        w: u64,
+    ) -> u64;
+
+    pub fn jibrufath_extract(
+        cube: *const u8,
+        cube_len: u64,
+        data: *mut u8,
+        data_len: u64,
+        l1: u64,
+        l2: u64,
+        l3: u64,
+        w: u64,
+    ) -> u64;
+
+    pub fn jibrufath_is_code_cube(
+        cube: *const u8,
+        cube_len: u64,
+        l1: u64,
+        l2: u64,
+        l3: u64,
+        w: u64,
+    ) -> u64;
+
+    pub fn jibrufath_fill(
+        cube: *mut u8,
+        cube_len: u64,
+        flags: *mut u8,
+        flags_len: u64,
+        l1: u64,
+        l2: u64,
+        l3: u64,
+        w: u64,
+    ) -> u64;
+
+    pub fn jibrufath_mend_axis(
+        cube: *mut u8,
+        cube_len: u64,
+        l1: u64,
+        l2: u64,
+        l3: u64,
+        w: u64,
+        axis: u64,
+    ) -> u64;
+
+    pub fn jibrufath_mend(
+        cube: *const u8,
+        cube_len: u64,
+        flags: *const u8,
+        flags_len: u64,
+        second: *mut u8,
+        second_len: u64,
+        l1: u64,
+        l2: u64,
+        l3: u64,
+        w: u64,
+    ) -> u64;
+
+    pub safe fn jibrufath_mul(a: u8, b: u8) -> u8;
+    pub safe fn jibrufath_inverse(a: u8) -> u8;
+    pub safe fn jibrufath_pow(i: u8) -> u8;
+}
