@@ -6,7 +6,8 @@ use lib.Dec.{eqb}
 use Rattle.field.specs.Field.{add, mul, pow}
 use Rattle.field.proofs.Addition.{add-swap}
 use Rattle.field.proofs.Multiplication.{mul-comm, mul-zero-l, mul-add-r, mul-left-comm}
-use Rattle.line.specs.Line.{syndrome0, syndrome1, pick, erased, row0, row1, solved, completed, withParity}
+use Rattle.solver.specs.Solver.{pick, row0, row1}
+use Rattle.line.specs.Line.{syndrome0, syndrome1, erased, solved, completed, withParity}
 use Rattle.cube.specs.Encoded.{along1, along2, along3}
 
 -- a byte made of bytes by sums and by products with constants

@@ -8,7 +8,8 @@ use lib.ListN.{length, getD}
 use borrow.Author.Tests.{eqb-true}
 use Rattle.answer.specs.Values.{check, andThen}
 use Rattle.field.specs.Field.{add, reduction, xtime, mulBits, mul, pow}
-use Rattle.line.specs.Line.{pick, syndrome0, syndrome1, errorPlace, corrected}
+use Rattle.solver.specs.Solver.{pick, errorPlace}
+use Rattle.line.specs.Line.{syndrome0, syndrome1, corrected}
 use Rattle.shape.specs.Shapes.{cells, capacity, both, within, lengthsFit, sizes, shapeChecked, cell}
 use Rattle.shape.specs.Flags.{missing, noneMissing, flagsValid}
 use Rattle.shape.proofs.Valid.{both-parts}

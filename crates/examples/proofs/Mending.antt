@@ -11,8 +11,10 @@ use borrow.Author.Tests.{eqb-true, leb-true, ltb-true}
 use Rattle.answer.specs.Values.{Value, gives, refused, refused-at}
 use Rattle.field.specs.Field.{reduction, mul, pow}
 use Rattle.field.proofs.Primitive.{primitive}
-use Rattle.line.specs.Line.{syndrome0, syndrome1, ErrorAt, corrected}
-use Rattle.line.proofs.Error.{factor-unique, corrected-none}
+use Rattle.solver.specs.Solver.{ErrorAt}
+use Rattle.line.specs.Line.{syndrome0, syndrome1, corrected}
+use Rattle.solver.proofs.Places.{factor-unique}
+use Rattle.line.proofs.Error.{corrected-none}
 use Rattle.shape.specs.declared.Shape.{Shape}
 use Rattle.shape.specs.Shapes.{both}
 use Rattle.shape.proofs.Valid.{both-parts}

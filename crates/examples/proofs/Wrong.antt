@@ -9,7 +9,8 @@ use Rattle.answer.specs.Values.{Value, gives, refused, check, andThen}
 use Rattle.answer.proofs.Values.{gives-refused}
 use Rattle.field.specs.Field.{add, reduction, xtime, mulBits, mul, pow}
 use Rattle.field.proofs.Primitive.{primitive}
-use Rattle.line.specs.Line.{pick, syndrome0, syndrome1, errorPlace, corrected}
+use Rattle.solver.specs.Solver.{pick, errorPlace}
+use Rattle.line.specs.Line.{syndrome0, syndrome1, corrected}
 use Rattle.shape.specs.Shapes.{cells, both, within, lengthsFit, sizes, shapeChecked, cell}
 use Rattle.shape.specs.Flags.{noneMissing, flagsValid}
 use Rattle.cube.specs.Cube.{layer, layerLine}

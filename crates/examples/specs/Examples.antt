@@ -6,7 +6,8 @@ use Prim.Native.Nat.{ℕ, _<_}
 use lib.ListN.{length, getD, set, replicate}
 use Rattle.answer.specs.Values.{Value, gives, refused}
 use Rattle.field.specs.Field.{reduction, mul, pow}
-use Rattle.line.specs.Line.{syndrome0, syndrome1, Codeword, ErrorAt, corrected}
+use Rattle.solver.specs.Solver.{ErrorAt}
+use Rattle.line.specs.Line.{syndrome0, syndrome1, Codeword, corrected}
 use Rattle.shape.specs.declared.Shape.{Shape}
 use Rattle.shape.specs.Shapes.{cells, cell, IsLine}
 use Rattle.shape.specs.Flags.{missing}

@@ -3,31 +3,19 @@ use mathlib.Core.Path.{_≡_, refl, sym, ap, _∙_}
 use mathlib.Core.List.{List}
 use mathlib.Core.Logic.{_≢_, ⊎-elim}
 use Prim.Native.Nat.{ℕ, _+_, _*_, _≤_, _<_}
-use native.Mathlib.Numerals.{add-one}
 use native.Mathlib.Decide.{ℕ-discrete, decLt}
 use native.Mathlib.Omega.{arith}
 use lib.ListN.{length, getD, set, length-set}
 use lib.Seq.{getD-set-same, getD-set-other}
-use Rattle.field.specs.Field.{add, xtime, mul, pow}
-use Rattle.field.proofs.Multiplication.{mul-one-l, xtime-mul-l}
-use Rattle.field.proofs.Power.{pow-zero, pow-suc}
+use Rattle.field.specs.Field.{add}
 use Rattle.line.specs.declared.Run.{Run}
-use Rattle.line.specs.Line.{syndrome0, syndrome1, Codeword, ErrorAt, errorPlace, corrected}
+use Rattle.solver.specs.Solver.{ErrorAt, errorPlace}
+use Rattle.line.specs.Line.{syndrome0, syndrome1, Codeword, corrected}
 use Rattle.line.specs.Run.{Inside, Off, lineAt, Corrected}
 use Rattle.line.specs.Inner.Block.{part}
 use Rattle.line.proofs.Error.{corrected-codeword-same, corrected-at, corrected-none, corrected-off}
 use Rattle.line.proofs.Geometry.{stride-below}
 use Rattle.line.proofs.Parts.{Changed, line-part}
-
--- ---- the search
-
-pub power-first : (r v : ℕ) → v < 256 → v ≡ mul r (pow r 0) v
-power-first r v h = sym (ap (λ (x : ℕ). mul r x v) (pow-zero r) ∙ mul-one-l r v h)
-
-pub power-next : (r v j p : ℕ) → r < 256 → p ≡ mul r (pow r j) v → xtime r p ≡ mul r (pow r (j + 1)) v
-power-next r v j p fits e =
-    ap (xtime r) e ∙ xtime-mul-l r (pow r j) v fits
-    ∙ ap (λ (x : ℕ). mul r x v) (sym (pow-suc r j) ∙ ap (pow r) (sym (add-one j)))
 
 -- ---- what becomes of each line, and where
 

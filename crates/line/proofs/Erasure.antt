@@ -9,8 +9,9 @@ use Rattle.field.specs.Field.{add, mul, pow, inverse, Primitive}
 use Rattle.field.proofs.Addition.{add-zero-l, add-zero-r, add-comm, add-assoc, add-left-comm, add-self, add-lt, add-eq-zero}
 use Rattle.field.proofs.Multiplication.{mul-comm, mul-add-l, mul-add-r, mul-one-r, mul-zero-r, mul-lt, ring}
 use Rattle.field.proofs.Power.{pow-lt, pow-different, mul-inverse}
-use Rattle.line.specs.Line.{syndrome0, syndrome1, Codeword, pick, erased, row0, row1, solved, completed, withParity}
-use Rattle.line.proofs.Pick.{pick-eq, pick-ne}
+use Rattle.solver.specs.Solver.{pick, row0, row1}
+use Rattle.line.specs.Line.{syndrome0, syndrome1, Codeword, erased, solved, completed, withParity}
+use Rattle.solver.proofs.Pick.{pick-eq, pick-ne}
 use Rattle.line.proofs.Syndrome.{syndrome0-cong, syndrome1-cong, syndrome0-zeros, syndrome1-zeros, syndrome0-add, syndrome1-add, syndrome0-lt, syndrome1-lt, single, single-at, single-off, syndrome0-single, syndrome1-single, syndrome0-change}
 use Rattle.line.proofs.Codeword.{codeword-cong, codeword-zero, codeword-add, codeword-scale, codeword-sum0, codeword-sum1, codeword-unique}
 

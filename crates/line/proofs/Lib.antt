@@ -1,8 +1,7 @@
 -- Why the crate `line` meets its contracts. First the laws of lines, over the reduction byte and the length, which crates above use.
--- Pick: a pick by a test of equality. Syndrome: linearity, Horner's rule, one place changed. Codeword: linearity and weight.
+-- Syndrome: linearity, Horner's rule, one place changed. Codeword: linearity and weight.
 -- Erasure: the completed line, and the line with its parity. Geometry: where the bytes of a run stand. Runs: completed lines in a list
 -- of bytes. Error: the corrected line.
-pub mod Pick
 pub mod Syndrome
 pub mod Codeword
 pub mod Erasure
@@ -10,7 +9,7 @@ pub mod Geometry
 pub mod Runs
 pub mod Error
 -- Then what the functions' proofs share. Updated and Strips: lists written byte by byte. Tails: Horner's rule for lines side by side.
--- Zeros: all syndromes 0. Rows: the inverted array. Parts: a run block by block. Solving, Correction and Encoding: a block's erasures,
+-- Zeros: all syndromes 0. Rows: erasures with their row. Parts: a run block by block. Solving, Correction and Encoding: a block's erasures,
 -- its errors, its parity.
 mod Updated
 mod Strips

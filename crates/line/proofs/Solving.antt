@@ -18,7 +18,7 @@ use Rattle.line.specs.Inner.Block.{places, ToEnd, Combined, Combining}
 use Rattle.line.proofs.Erasure.{syndrome0-erased-end, syndrome1-erased-end}
 use Rattle.line.proofs.Geometry.{off-place, off-width, stride-below}
 use Rattle.line.proofs.Parts.{Changed}
-use Rattle.line.proofs.Pick.{pick-eq, pick-ne}
+use Rattle.solver.proofs.Pick.{pick-eq, pick-ne}
 
 -- ---- what becomes of each line, and where
 

@@ -1,10 +1,9 @@
 -- Lines (document 01, "Lines"): a line of length n is a function from places to bytes, of which the places below n count.
 use mathlib.Core.Path.{_≡_}
-use mathlib.Core.Bool.{Bool, true, false}
-use mathlib.Core.Logic.{_≢_}
-use Prim.Native.Nat.{ℕ, zero, suc, _-_, _<_}
+use Prim.Native.Nat.{ℕ, zero, suc, _-_}
 use lib.Dec.{eqb}
-use Rattle.field.specs.Field.{add, mul, pow, inverse}
+use Rattle.field.specs.Field.{add, mul, pow}
+use Rattle.solver.specs.Solver.{pick, row0, row1, errorPlace}
 
 -- "Its first sum adds all c(i)": the first syndrome
 unfoldable pub syndrome0 : (ℕ → ℕ) → ℕ → ℕ
@@ -21,21 +20,9 @@ pub record Codeword (r : ℕ) (c : ℕ → ℕ) (n : ℕ) : Type 0 where
   pub first : syndrome0 c n ≡ 0
   pub second : syndrome1 r c n ≡ 0
 
-unfoldable pub pick : Bool → ℕ → ℕ → ℕ
-pick true a b = a
-pick false a b = b
-
 -- the line with both erasures (document 01: holes) read as 00h
 unfoldable pub erased : ℕ → ℕ → (ℕ → ℕ) → ℕ → ℕ
 erased j k c i = pick (eqb i k) 0 (pick (eqb i j) 0 (c i))
-
--- "two equations in two unknowns": the array [1, 1; α^j, α^k] times the bytes at j and k gives the two syndromes. Of its inverse
--- the second row gives the byte at k: these are that row's entries. One erasure (j = k) leaves one unknown, the first syndrome.
-unfoldable pub row0 : ℕ → ℕ → ℕ → ℕ
-row0 r j k = pick (eqb j k) 1 (mul r (inverse r (add (pow r j) (pow r k))) (pow r j))
-
-unfoldable pub row1 : ℕ → ℕ → ℕ → ℕ
-row1 r j k = pick (eqb j k) 0 (inverse r (add (pow r j) (pow r k)))
 
 -- the byte at the erasure k, from the syndromes of the erased line
 unfoldable pub solved : ℕ → ℕ → ℕ → ℕ → ℕ → ℕ
@@ -53,19 +40,6 @@ completed r n j k c i =
 -- "Places L-2 and L-1 are parity": the line of length n with its parity filled in from its other places, whatever stood there
 unfoldable pub withParity : ℕ → ℕ → (ℕ → ℕ) → ℕ → ℕ
 withParity r n c = completed r n (n - 2) (n - 1) c
-
--- "With sums v0, v1 both nonzero, v1 = α^j × v0 and j < L": j is the place of a single error
-pub record ErrorAt (r v0 v1 n j : ℕ) : Type 0 where
-  pub first-nonzero : v0 ≢ 0
-  pub second-nonzero : v1 ≢ 0
-  pub below : j < n
-  pub factor : v1 ≡ mul r (pow r j) v0
-
--- "v1 = α^j × v0 and j < L": the first such place j, and n where there is none. Where α is primitive it is the only one.
-unfoldable pub errorPlace : ℕ → ℕ → ℕ → ℕ → ℕ
-errorPlace r v0 v1 zero = zero
-errorPlace r v0 v1 (suc n) =
-    pick (eqb (errorPlace r v0 v1 n) n) (pick (eqb v1 (mul r (pow r n) v0)) n (suc n)) (errorPlace r v0 v1 n)
 
 -- "v0 is added to c(j); otherwise the line keeps its bytes": the line of length n after single-error correction (document 01: mended)
 unfoldable pub corrected : ℕ → ℕ → (ℕ → ℕ) → ℕ → ℕ

@@ -8,7 +8,8 @@ use lib.ListN.{length, getD}
 use Rattle.span.specs.Decision.{Decides, Guarded}
 use Rattle.line.specs.declared.Run.{Run}
 use Rattle.line.specs.declared.Erasures.{Erasures}
-use Rattle.line.specs.Line.{Codeword, syndrome0, syndrome1, erased, withParity, corrected, row0, row1}
+use Rattle.solver.specs.Solver.{row0, row1}
+use Rattle.line.specs.Line.{Codeword, syndrome0, syndrome1, erased, withParity, corrected}
 use Rattle.field.specs.Field.{add, mul}
 
 -- line t of a run

@@ -1,45 +1,14 @@
 // Single-error correction of blocks of neighbouring lines, from their syndromes.
-use crate::Place;
 use crate::Run;
 use crate::block;
 use crate::wide;
+use solver::Place;
 ghost use mathlib.Core.Path.{_≡_};
 ghost use Prim.Native.Nat.{_<_, _≤_};
 ghost use lib.ListN.{length};
 ghost use Rattle.line.specs.Line.{syndrome0, syndrome1};
 ghost use Rattle.line.specs.Run.{Inside, Corrected, lineAt};
-ghost use Rattle.line.specs.Inner.Corrector.{PlaceOutcome};
 ghost use Rattle.line.specs.Inner.Block.{Syndromes, part};
-
-// The place of a single error on a line of length n with the syndromes v0 and v1.
-fn error_place(reduction: u8, v0: u8, v1: u8, n: usize) -> Place
-    ensures { λ r. ⌜ PlaceOutcome reduction v0 v1 n r ⌝ }
-{
-    if v0 == 0 {
-        return Place::Nowhere;
-    }
-    if v1 == 0 {
-        return Place::Nowhere;
-    }
-    search(reduction, v0, v1, n)
-}
-
-// The first place below n at which v0, multiplied by the power of α, is v1.
-fn search(reduction: u8, v0: u8, v1: u8, n: usize) -> Place
-    requires { ⌜ (v0 ≡ 0 → ⊥) × (v1 ≡ 0 → ⊥) ⌝ }
-    ensures { λ r. ⌜ PlaceOutcome reduction v0 v1 n r ⌝ }
-{
-    let mut p = v0;
-    let mut j = 0;
-    while j < n {
-        if p == v1 {
-            return Place::At(j);
-        }
-        p = field::xtime(reduction, p);
-        j += 1;
-    }
-    Place::Nowhere
-}
 
 // Corrects every line of the run, block by block.
 pub(crate) fn correct_blocks(s: &mut [u8], reduction: u8, run: Run)
@@ -85,7 +54,7 @@ fn correct_line(s: &mut [u8], reduction: u8, run: Run, t: usize, v0: u8, v1: u8)
     requires { ⌜ (Inside run (length (now s))) × (t < run .width) × (v0 ≡ syndrome0 (lineAt (now s) run t) (run .len)) × (v1 ≡ syndrome1 reduction (lineAt (now s) run t) (run .len)) ⌝ }
     ensures { λ r. ⌜ Corrected reduction (part run t 1) (now (s .entry)) (now (s .exit)) ⌝ }
 {
-    let place = error_place(reduction, v0, v1, run.len);
+    let place = solver::error_place(reduction, v0, v1, run.len);
     let Place::At(j) = place else {
         return;
     };

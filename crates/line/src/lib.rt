@@ -3,7 +3,6 @@
 mod block;
 mod corrector;
 mod encoder;
-mod solver;
 mod strip;
 mod wide;
 
@@ -17,12 +16,6 @@ pub struct Run {
     pub stride: usize,
     pub len: usize,
     pub width: usize,
-}
-
-// Where a single error stands on a line.
-enum Place {
-    At(usize),
-    Nowhere,
 }
 
 // The erasures j ≤ k of each line of a run, one erasure where they are equal, with the row [b, d] of the inverted array that gives

@@ -4,8 +4,8 @@ use Prim.Native.Nat.{_+_, _*_, _≤_}
 use native.Mathlib.Omega.{arith}
 use lib.ListN.{length}
 use denote.Ref.{now}
-use Rattle.line.specs.declared.Place.the-variants.{At}
-use Rattle.line.specs.Inner.Corrector.{PlaceOutcome}
+use Rattle.solver.specs.declared.Place.the-variants.{At}
+use Rattle.solver.specs.Solver.{PlaceOutcome}
 use Rattle.line.proofs.Correction.{corrected-nowhere, corrected-found}
 use borrow.Author.Needs.{needs}
 use Rattle.line.proofs.corrector.correct_line.Statement.{statement}

@@ -5,7 +5,7 @@ use mathlib.Core.Logic.{_≢_}
 use Prim.Native.Nat.{ℕ}
 use lib.Dec.{eqb}
 use borrow.Author.Tests.{eq-eqb, ne-eqb}
-use Rattle.line.specs.Line.{pick}
+use Rattle.solver.specs.Solver.{pick}
 
 pub pick-eq : (a b x y : ℕ) → a ≡ b → pick (eqb a b) x y ≡ x
 unfolding pick

@@ -1,14 +1,13 @@
--- `line::corrector::search` finds the first place below n at which v0 times the power of α is v1.
+-- `solver::search` finds the first place below n at which v0 times the power of α is v1.
 use mathlib.Core.Path.{_≡_, sym, _∙_}
 use Prim.Native.Nat.{ℕ, _-_, _≤_, _<_}
 use native.Mathlib.Omega.{arith}
 use borrow.Author.Count.{below-more}
 use Rattle.field.specs.Field.{xtime, mul, pow}
-use Rattle.line.specs.Inner.Corrector.{PlaceOutcome}
-use Rattle.line.proofs.Error.{error-place-first}
-use Rattle.line.proofs.Correction.{power-first, power-next}
-use Rattle.line.proofs.corrector.search.Statement.{statement}
-use Rattle.line.proofs.corrector.search.Tie as tie
+use Rattle.solver.specs.Solver.{PlaceOutcome}
+use Rattle.solver.proofs.Places.{error-place-first, power-first, power-next}
+use Rattle.solver.proofs.search.Statement.{statement}
+use Rattle.solver.proofs.search.Tie as tie
 
 abbrev Inv-loop : tie.InvT-loop
 Inv-loop reduction v0 v1 n p₀ j₀ p j =

@@ -1,9 +1,9 @@
--- `line::solver::invert` gives the inverse of a two by two array by value.
+-- `solver::invert` gives the inverse of a two by two array by value.
 use Rattle.field.specs.Field.{add}
-use Rattle.line.specs.Inner.Solver.{entry, adjugate, inverted}
+use Rattle.solver.specs.Inner.Solver.{entry, adjugate, inverted}
 use borrow.Author.Needs.{needs}
-use Rattle.line.proofs.solver.invert.Statement.{statement}
-use Rattle.line.proofs.solver.invert.Tie as tie
+use Rattle.solver.proofs.invert.Statement.{statement}
+use Rattle.solver.proofs.invert.Tie as tie
 
 index-1-a : tie.Need-index-1-a
 index-1-a c = search needs

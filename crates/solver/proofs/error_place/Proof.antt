@@ -1,8 +1,8 @@
--- `line::corrector::error_place` gives the place of a single error: none where a syndrome is 0.
-use Rattle.line.specs.Inner.Corrector.{PlaceOutcome}
+-- `solver::error_place` gives the place of a single error: none where a syndrome is 0.
+use Rattle.solver.specs.Solver.{PlaceOutcome}
 use borrow.Author.Needs.{needs}
-use Rattle.line.proofs.corrector.error_place.Statement.{statement}
-use Rattle.line.proofs.corrector.error_place.Tie as tie
+use Rattle.solver.proofs.error_place.Statement.{statement}
+use Rattle.solver.proofs.error_place.Tie as tie
 
 returns : tie.Need-returns
 unfolding PlaceOutcome

@@ -1,12 +1,12 @@
--- `line::solver::second_row` gives the row of the inverted array that gives the byte at k.
+-- `solver::second_row` gives the row of the inverted array that gives the byte at k.
 use mathlib.Core.Path.{ap₂}
 use mathlib.Core.List.{[], _∷_}
 use Prim.Native.Nat.{ℕ}
-use Rattle.line.specs.Inner.Solver.{entry, adjugate, inverted}
+use Rattle.solver.specs.Inner.Solver.{entry, adjugate, inverted}
 use borrow.Author.Needs.{needs}
-use Rattle.line.proofs.Rows.{rows-same, row0-other, row1-other}
-use Rattle.line.proofs.solver.second_row.Statement.{statement}
-use Rattle.line.proofs.solver.second_row.Tie as tie
+use Rattle.solver.proofs.Rows.{rows-same, row0-other, row1-other}
+use Rattle.solver.proofs.second_row.Statement.{statement}
+use Rattle.solver.proofs.second_row.Tie as tie
 
 returns : tie.Need-returns
 returns c = rows-same _ _ _ (c .if1 .taken)

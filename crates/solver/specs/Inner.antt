@@ -1,0 +1,2 @@
+-- What the private functions of the crate owe one another.
+pub mod Solver

@@ -1,0 +1,3 @@
+-- What a reader of the crate `solver` must believe. Inner is what its private functions owe one another.
+pub mod Solver
+pub mod Inner
