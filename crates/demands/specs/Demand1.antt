@@ -16,7 +16,7 @@ use Rattle.shape.specs.Flags.{missing}
 use Rattle.cube.specs.Calls.{EncodeOutcome, ExtractOutcome, ReadOutcome, ZeroOutcome, CheckOutcome}
 use Rattle.fill.specs.Fill.{CellsLeft, Cleared, FillOutcome}
 use Rattle.mend.specs.Mend.{MendOutcome, AxisOutcome}
-use Rattle.pack.specs.declared.Cursor.{Cursor}
+use Rattle.cursor.specs.declared.Cursor.{Cursor}
 use Rattle.pack.specs.declared.Header.{Header}
 use Rattle.pack.specs.declared.Section.{Section}
 use Rattle.pack.specs.Reading.{headerOf, jobOf, airOf}

@@ -7,7 +7,7 @@ use Rattle.answer.specs.Values.{Checked, passes, fails, checked}
 use Rattle.shape.specs.declared.Shape.{Shape}
 use Rattle.shape.specs.Shapes.{cells, capacity}
 use Rattle.pack.specs.declared.Header.{Header}
-use Rattle.pack.specs.declared.Cursor.{Cursor}
+use Rattle.cursor.specs.declared.Cursor.{Cursor}
 use Rattle.pack.specs.Packs.{packSize}
 use Rattle.pack.specs.Reading.{headerOf}
 use Rattle.jibrufath.specs.Exports.{packed, uncounted}

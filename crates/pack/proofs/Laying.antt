@@ -12,7 +12,7 @@ use Rattle.span.proofs.Stretches.{stretch-end}
 use Rattle.shape.specs.declared.Shape.{Shape}
 use Rattle.shape.specs.Shapes.{Valid, cells}
 use Rattle.shape.proofs.Geometry.{third-lt}
-use Rattle.pack.specs.declared.Cursor.{Cursor}
+use Rattle.cursor.specs.declared.Cursor.{Cursor}
 use Rattle.pack.specs.declared.Section.{Section}
 use Rattle.pack.specs.Packs.{wordBytes, shapeBytes, packetBytes, packets, airPack, packetOf, upFrom, firstPackets, everyPacket, packSize, padded}
 use Rattle.pack.specs.Reading.{fileOf}

@@ -1,7 +1,6 @@
--- Why the crate `pack` meets its contracts: the steps of reading (`Steps`), what was read (`Sound`), the numbers of refusals (`Numbers`), packets that name a cell
+-- Why the crate `pack` meets its contracts: what was read (`Sound`), the numbers of refusals (`Numbers`), packets that name a cell
 -- (`Naming`), packs that were written (`Written`) and the packets that stand in them (`Standing`), parts laid one behind the other (`Laying`), the
 -- writing calls' answers (`Outcomes`), the data string of a file (`DataStrings`).
-pub mod Steps
 pub mod Sound
 pub mod Numbers
 pub mod Naming

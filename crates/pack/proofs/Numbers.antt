@@ -9,9 +9,10 @@ use Rattle.answer.proofs.Values.{check-number, then-number, passes-number}
 use Rattle.shape.specs.declared.Shape.{Shape}
 use Rattle.shape.specs.Shapes.{shapeChecked}
 use Rattle.shape.proofs.Valid.{shape-number}
-use Rattle.pack.specs.declared.Cursor.{Cursor}
+use Rattle.cursor.specs.declared.Cursor.{Cursor}
 use Rattle.pack.specs.declared.Header.{Header}
-use Rattle.pack.specs.Reading.{count, bytes, end, headed, headerOf, jobBehind, jobOf, airBehind, airOf}
+use Rattle.cursor.specs.Steps.{count, bytes}
+use Rattle.pack.specs.Reading.{end, headed, headerOf, jobBehind, jobOf, airBehind, airOf}
 
 -- ---- the checks of a shape
 

@@ -12,7 +12,7 @@ use Rattle.answer.proofs.Values.{passes-injective, check-passed, checked-passes
 use Rattle.shape.specs.declared.Shape.{Shape}
 use Rattle.shape.specs.Shapes.{Valid, capacity, sizes, shapeChecked}
 use Rattle.shape.proofs.Valid.{shape-passed}
-use Rattle.pack.specs.declared.Cursor.{Cursor}
+use Rattle.cursor.specs.declared.Cursor.{Cursor}
 use Rattle.pack.specs.declared.Section.{Section}
 use Rattle.pack.specs.declared.Header.{Header}
 use Rattle.pack.specs.declared.HeaderRead.{HeaderRead}
@@ -21,9 +21,10 @@ use Rattle.pack.specs.declared.JobRead.{JobRead}
 use Rattle.pack.specs.declared.JobRead.the-variants.{Job, Refused as NoJob}
 use Rattle.pack.specs.declared.AirRead.{AirRead}
 use Rattle.pack.specs.declared.AirRead.the-variants.{Air, Refused as NoAir}
-use Rattle.pack.specs.Packs.{word}
-use Rattle.pack.specs.Reading.{count, bytes, end, headed, headerOf, headerValue, packetSize, jobBehind, jobOf, jobValue, airBehind, airOf, airValue}
-use Rattle.pack.proofs.Steps.{word-lt}
+use Rattle.cursor.specs.Steps.{word}
+use Rattle.cursor.specs.Steps.{count, bytes}
+use Rattle.pack.specs.Reading.{end, headed, headerOf, headerValue, packetSize, jobBehind, jobOf, jobValue, airBehind, airOf, airValue}
+use Rattle.cursor.proofs.Steps.{word-lt}
 
 -- ---- a step that passed
 

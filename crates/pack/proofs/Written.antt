@@ -15,11 +15,13 @@ use Rattle.shape.specs.declared.Shape.{Shape}
 use Rattle.shape.specs.Shapes.{Valid, cells, capacity, sizes}
 use Rattle.shape.proofs.Valid.{valid-passes}
 use Rattle.span.proofs.Stretches.{stretch-end}
-use Rattle.pack.specs.declared.Cursor.{Cursor}
+use Rattle.cursor.specs.declared.Cursor.{Cursor}
 use Rattle.pack.specs.declared.Section.{Section}
 use Rattle.pack.specs.declared.Header.{Header}
-use Rattle.pack.specs.Packs.{word, wordBytes, shapeBytes, Packet, packetBytes, packets, jobPack, airPack, packetOf, upFrom, firstPackets, everyPacket, packSize, padded, dataString}
-use Rattle.pack.specs.Reading.{count, bytes, end, shapeAt, headerFor, headed, headerOf, jobBehind, jobOf, packetSize, airBehind, airOf, fileOf}
+use Rattle.cursor.specs.Steps.{word}
+use Rattle.pack.specs.Packs.{wordBytes, shapeBytes, Packet, packetBytes, packets, jobPack, airPack, packetOf, upFrom, firstPackets, everyPacket, packSize, padded, dataString}
+use Rattle.cursor.specs.Steps.{count, bytes}
+use Rattle.pack.specs.Reading.{end, shapeAt, headerFor, headed, headerOf, jobBehind, jobOf, packetSize, airBehind, airOf, fileOf}
 use Rattle.pack.specs.Packets.{packetAt, packetNo, source, sourceOf}
 
 -- ---- words

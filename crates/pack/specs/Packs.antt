@@ -1,13 +1,9 @@
 -- Packs (document 01, "Packs"): the house form as lists of bytes.
 use mathlib.Core.List.{List, [], _∷_, _++_, map}
 use Prim.Native.Nat.{ℕ, zero, suc, _+_, _-_, _*_, _/_, _%_}
-use lib.ListN.{length, getD, take, drop, replicate}
+use lib.ListN.{length, take, drop, replicate}
 use Rattle.shape.specs.declared.Shape.{Shape}
 use Rattle.shape.specs.Shapes.{cells, capacity}
-
--- "four bytes, low first": the number that stands at a place of a pack
-unfoldable pub word : List ℕ → ℕ → ℕ
-word p at = getD p at 0 + 256 * getD p (at + 1) 0 + 65536 * getD p (at + 2) 0 + 16777216 * getD p (at + 3) 0
 
 -- a number as four bytes, low first
 unfoldable pub wordBytes : ℕ → List ℕ

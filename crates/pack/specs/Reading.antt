@@ -4,33 +4,19 @@ use mathlib.Core.List.{List}
 use Prim.Native.Nat.{ℕ, _+_, _*_}
 use lib.Dec.{eqb, leb}
 use lib.ListN.{length, getD, take, drop}
-use Rattle.answer.specs.Values.{Value, gives, refused, Checked, passes, check, andThen, refusal}
+use Rattle.answer.specs.Values.{Value, gives, Checked, passes, check, andThen, refusal}
 use Rattle.shape.specs.declared.Shape.{Shape}
 use Rattle.shape.specs.Shapes.{sizes, shapeChecked}
-use Rattle.pack.specs.declared.Cursor.{Cursor}
+use Rattle.cursor.specs.declared.Cursor.{Cursor}
+use Rattle.cursor.specs.Steps.{count, bytes}
 use Rattle.pack.specs.declared.Section.{Section}
 use Rattle.pack.specs.declared.Header.{Header}
-use Rattle.pack.specs.declared.CountRead.{CountRead}
-use Rattle.pack.specs.declared.CountRead.the-variants.{Count, Cut}
-use Rattle.pack.specs.declared.BytesRead.{BytesRead}
-use Rattle.pack.specs.declared.BytesRead.the-variants.{Bytes, Cut as BytesCut}
 use Rattle.pack.specs.declared.HeaderRead.{HeaderRead}
 use Rattle.pack.specs.declared.HeaderRead.the-variants.{Headed, Refused as NoHeader}
 use Rattle.pack.specs.declared.JobRead.{JobRead}
 use Rattle.pack.specs.declared.JobRead.the-variants.{Job, Refused as NoJob}
 use Rattle.pack.specs.declared.AirRead.{AirRead}
 use Rattle.pack.specs.declared.AirRead.the-variants.{Air, Refused as NoAir}
-use Rattle.pack.specs.Packs.{word}
-
--- ---- the steps, each a row of the table; what comes next is a function of what was read and of the cursor behind it
-
--- a count: "pack ends inside a count or section (every section)"
-unfoldable pub count : {A : Type 0} → List ℕ → Cursor → (ℕ → Cursor → Checked A) → Checked A
-count p c next = check (leb (c .at + 4) (length p)) 6 (next (word p (c .at)) (record { at = c .at + 4 }))
-
--- a section of n bytes: where it begins
-unfoldable pub bytes : {A : Type 0} → List ℕ → Cursor → ℕ → (ℕ → Cursor → Checked A) → Checked A
-bytes p c n next = check (leb (c .at + n) (length p)) 6 (next (c .at) (record { at = c .at + n }))
 
 -- "bytes after section 3"
 unfoldable pub end : {A : Type 0} → List ℕ → Cursor → Checked A → Checked A
@@ -105,14 +91,6 @@ unfoldable pub fileOf : List ℕ → Section → List ℕ
 fileOf p s = take (s .count) (drop (s .at) p)
 
 -- ---- what the calls answer
-
-unfoldable pub countValue : CountRead → Value (ℕ × Cursor)
-countValue (Count n next) = gives (n, next)
-countValue Cut = refused 6
-
-unfoldable pub bytesValue : BytesRead → Value (ℕ × Cursor)
-bytesValue (Bytes at next) = gives (at, next)
-bytesValue BytesCut = refused 6
 
 unfoldable pub headerValue : HeaderRead → Value (Header × Cursor)
 headerValue (Headed h next) = gives (h, next)

@@ -2,7 +2,7 @@
 use crate::Header;
 use crate::PacketRead;
 use crate::Section;
-use crate::wide;
+use cursor::wide;
 use shape::Shape;
 ghost use mathlib.Core.Path.{_≡_};
 ghost use mathlib.Core.Bool.{true, false};

@@ -1,15 +1,15 @@
 // Reading a pack: for everybody section 1, for the writer a file, for the receiver packets. Checks in the order of document 01's table.
 use crate::AirRead;
-use crate::BytesRead;
-use crate::CountRead;
-use crate::Cursor;
 use crate::Header;
 use crate::HeaderRead;
 use crate::JobRead;
 use crate::Section;
-use crate::wide;
 use answer::Fault;
 use answer::Refusal;
+use cursor::BytesRead;
+use cursor::CountRead;
+use cursor::Cursor;
+use cursor::wide;
 use shape::Measured;
 use shape::Shape;
 ghost use mathlib.Core.Path.{_≡_};

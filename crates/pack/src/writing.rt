@@ -1,10 +1,10 @@
 // Writing an air pack of every cell of a cube, and the data string of a file: each part from the byte where the one before ended.
-use crate::Cursor;
 use crate::PackSize;
 use crate::Section;
 use answer::Answer;
 use answer::Fault;
 use answer::Refusal;
+use cursor::Cursor;
 use shape::Measured;
 use shape::Shape;
 ghost use mathlib.Core.Path.{_≡_};
@@ -50,8 +50,8 @@ pub fn write_data(pack: &[u8], s: Section, out: &mut [u8]) -> bool
         return false;
     }
     let start = Cursor { at: 0 };
-    let file = start.put_count(out, n);
-    let rest = file.put_bytes(out, pack, at, n);
+    let file = put_count(start, out, n);
+    let rest = put_bytes(file, out, pack, at, n);
     let behind = rest.at;
     let len = out.len();
     span::set(out, behind, len - behind, 0);
@@ -91,36 +91,34 @@ fn write_sections(cube: &[u8], out: &mut [u8], sh: Shape)
 {
     let count = sh.l1 * sh.l2 * sh.l3;
     let start = Cursor { at: 0 };
-    let body = start.put_count(out, 5);
+    let body = put_count(start, out, 5);
     let second = put_shape(out, body, sh);
-    let third = second.put_count(out, 0);
-    let first = third.put_count(out, count);
+    let third = put_count(second, out, 0);
+    let first = put_count(third, out, count);
     put_packets(cube, out, first, sh, count);
 }
 
-impl Cursor {
-    // A count, four bytes, low first.
-    fn put_count(self, out: &mut [u8], n: usize) -> Cursor
-        requires { ⌜ self .at + 4 ≤ length (now out) ⌝ }
-        ensures { λ r. ⌜ Laid (now (out .entry)) self (wordBytes n) (now (out .exit)) r ⌝ }
-    {
-        let at = self.at;
-        out[at] = (n % 256) as u8;
-        out[at + 1] = (n / 256 % 256) as u8;
-        out[at + 2] = (n / 65536 % 256) as u8;
-        out[at + 3] = (n / 16777216 % 256) as u8;
-        Cursor { at: at + 4 }
-    }
+// A count, four bytes, low first.
+fn put_count(c: Cursor, out: &mut [u8], n: usize) -> Cursor
+    requires { ⌜ c .at + 4 ≤ length (now out) ⌝ }
+    ensures { λ r. ⌜ Laid (now (out .entry)) c (wordBytes n) (now (out .exit)) r ⌝ }
+{
+    let at = c.at;
+    out[at] = (n % 256) as u8;
+    out[at + 1] = (n / 256 % 256) as u8;
+    out[at + 2] = (n / 65536 % 256) as u8;
+    out[at + 3] = (n / 16777216 % 256) as u8;
+    Cursor { at: at + 4 }
+}
 
-    // The n bytes of `src` from `from` on.
-    fn put_bytes(self, out: &mut [u8], src: &[u8], from: usize, n: usize) -> Cursor
-        requires { ⌜ (self .at + n ≤ length (now out)) × (from + n ≤ length (now src)) ⌝ }
-        ensures { λ r. ⌜ Laid (now (out .entry)) self (take n (drop from (now (src .entry)))) (now (out .exit)) r ⌝ }
-    {
-        let at = self.at;
-        span::copy(src, out, from, at, n);
-        Cursor { at: at + n }
-    }
+// The n bytes of `src` from `from` on.
+fn put_bytes(c: Cursor, out: &mut [u8], src: &[u8], from: usize, n: usize) -> Cursor
+    requires { ⌜ (c .at + n ≤ length (now out)) × (from + n ≤ length (now src)) ⌝ }
+    ensures { λ r. ⌜ Laid (now (out .entry)) c (take n (drop from (now (src .entry)))) (now (out .exit)) r ⌝ }
+{
+    let at = c.at;
+    span::copy(src, out, from, at, n);
+    Cursor { at: at + n }
 }
 
 // The five bytes of section 1.
@@ -157,7 +155,7 @@ fn put_packet(cube: &[u8], out: &mut [u8], c: Cursor, sh: Shape, n: usize) -> Cu
 {
     let w = sh.w;
     let cell = put_coordinates(out, c, sh, n);
-    cell.put_bytes(out, cube, n * w, w)
+    put_bytes(cell, out, cube, n * w, w)
 }
 
 fn put_coordinates(out: &mut [u8], c: Cursor, sh: Shape, n: usize) -> Cursor

@@ -24,7 +24,8 @@ use Rattle.fill.specs.Theorems.{SameKnown}
 use Rattle.fill.proofs.Unique.{Same, outcome-determined, outcome-known}
 use Rattle.pack.specs.declared.Header.{Header}
 use Rattle.pack.specs.declared.Section.{Section}
-use Rattle.pack.specs.Packs.{word, dataString}
+use Rattle.cursor.specs.Steps.{word}
+use Rattle.pack.specs.Packs.{dataString}
 use Rattle.pack.specs.Packets.{Source, source, InRange}
 use Rattle.receiver.specs.declared.Counts.{Counts}
 use Rattle.receiver.specs.Placing.{Conflicting, among, Placed}

@@ -21,7 +21,7 @@ use Rattle.cube.proofs.HeldData.{length-heldData, heldData-at}
 use Rattle.cube.proofs.Tables.{tabulate-lt}
 use Rattle.cube.proofs.Checks.{cube-done-checked, read-done-checked}
 use Rattle.cube.proofs.Outcomes.{read-works, zero-works, zero-nonzero}
-use Rattle.pack.specs.Packs.{word}
+use Rattle.cursor.specs.Steps.{word}
 use Rattle.receiver.specs.Opening.{long, later, OpenOutcome, held, bad}
 use Rattle.receiver.proofs.Bytes.{clash}
 use Rattle.pack.proofs.DataStrings.{string-of-file}

@@ -7,7 +7,8 @@ use lib.ListN.{length, getD, drop}
 use Rattle.shape.specs.declared.Shape.{Shape}
 use Rattle.shape.specs.Shapes.{capacity}
 use Rattle.cube.specs.Cube.{heldData}
-use Rattle.pack.specs.Packs.{word, dataString}
+use Rattle.cursor.specs.Steps.{word}
+use Rattle.pack.specs.Packs.{dataString}
 use Rattle.answer.specs.Values.{Value, gives, refused}
 
 -- 14: "the length held is above capacity - 4, or a later byte is not 00h"

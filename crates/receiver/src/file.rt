@@ -7,7 +7,7 @@ ghost use lib.ListN.{length};
 ghost use Rattle.span.specs.Decision.{Decides};
 ghost use Rattle.shape.specs.Shapes.{Valid, cells, capacity};
 ghost use Rattle.cube.specs.Cube.{dataOf, heldData};
-ghost use Rattle.pack.specs.Packs.{word};
+ghost use Rattle.cursor.specs.Steps.{word};
 ghost use Rattle.receiver.specs.Opening.{OpenOutcome};
 ghost use Rattle.receiver.specs.Inner.File.{openingValue};
 

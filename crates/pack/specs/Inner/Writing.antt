@@ -5,7 +5,7 @@ use Prim.Native.Nat.{ℕ, _+_, _*_, _/_, _%_}
 use lib.ListN.{length}
 use Rattle.span.specs.Span.{Put}
 use Rattle.shape.specs.declared.Shape.{Shape}
-use Rattle.pack.specs.declared.Cursor.{Cursor}
+use Rattle.cursor.specs.declared.Cursor.{Cursor}
 
 -- the list vs stands at the cursor, every other byte is kept, and the next cursor stands behind it
 pub record Laid (before : List ℕ) (c : Cursor) (vs after : List ℕ) (next : Cursor) : Type 0 where

@@ -5,7 +5,7 @@ use borrow.Author.Tests.{eq-eqb, ne-eqb}
 use Rattle.answer.specs.Refusals.{faultNumber}
 use Rattle.answer.specs.Values.{refusal, check, checked}
 use Rattle.pack.specs.Reading.{end, packetSize, airBehind, airValue}
-use Rattle.pack.proofs.Steps.{count-read, count-cut, count-lt, bytes-read, bytes-cut}
+use Rattle.cursor.proofs.Steps.{count-read, count-cut, count-lt, bytes-read, bytes-cut}
 use Rattle.pack.proofs.Sound.{packets-le}
 use borrow.Author.Needs.{needs}
 use Rattle.pack.proofs.reading.air_behind.Statement.{statement}

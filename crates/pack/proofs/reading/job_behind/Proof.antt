@@ -5,7 +5,7 @@ use borrow.Author.Tests.{le-leb, lt-leb, eq-eqb, ne-eqb}
 use Rattle.answer.specs.Refusals.{faultNumber}
 use Rattle.answer.specs.Values.{refusal, check, checked}
 use Rattle.pack.specs.Reading.{end, jobBehind, jobValue}
-use Rattle.pack.proofs.Steps.{count-read, count-cut, count-lt, bytes-read, bytes-cut}
+use Rattle.cursor.proofs.Steps.{count-read, count-cut, count-lt, bytes-read, bytes-cut}
 use borrow.Author.Needs.{needs}
 use Rattle.pack.proofs.reading.job_behind.Statement.{statement}
 use Rattle.pack.proofs.reading.job_behind.Tie as tie

@@ -4,7 +4,7 @@ use borrow.Author.Tests.{eq-eqb, ne-eqb}
 use Rattle.answer.specs.Refusals.{faultNumber}
 use Rattle.answer.specs.Values.{refusal, check, checked}
 use Rattle.pack.specs.Reading.{headerOf, headerValue}
-use Rattle.pack.proofs.Steps.{count-read, count-cut, bytes-read, bytes-cut, bytes-known}
+use Rattle.cursor.proofs.Steps.{count-read, count-cut, bytes-read, bytes-cut, bytes-known}
 use borrow.Author.Needs.{needs}
 use Rattle.pack.proofs.reading.read_header.Statement.{statement}
 use Rattle.pack.proofs.reading.read_header.Tie as tie

@@ -1,7 +1,7 @@
 -- `held_length` reads the first four bytes of the data string, low first.
 use native.Mathlib.Omega.{arith}
 use borrow.Author.Needs.{needs}
-use Rattle.pack.specs.Packs.{word}
+use Rattle.cursor.specs.Steps.{word}
 use Rattle.receiver.proofs.HeldFile.{read-told}
 use Rattle.receiver.proofs.file.held_length.Statement.{statement}
 use Rattle.receiver.proofs.file.held_length.Tie as tie

@@ -1,9 +1,9 @@
--- `pack::Cursor::count` meets its contract. Assumes nothing.
+-- `cursor::Cursor::count` meets its contract. Assumes nothing.
 use native.Mathlib.Omega.{arith}
-use Rattle.pack.proofs.Steps.{cut-count, whole-count}
+use Rattle.cursor.proofs.Steps.{cut-count, whole-count}
 use borrow.Author.Needs.{needs}
-use Rattle.pack.proofs.Cursor.count.Statement.{statement}
-use Rattle.pack.proofs.Cursor.count.Tie as tie
+use Rattle.cursor.proofs.Cursor.count.Statement.{statement}
+use Rattle.cursor.proofs.Cursor.count.Tie as tie
 
 returns : tie.Need-returns
 returns c = cut-count _ _ (omega arith)

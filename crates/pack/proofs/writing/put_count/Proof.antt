@@ -1,12 +1,12 @@
--- `pack::Cursor::put_count` meets its contract. Assumes nothing.
+-- `pack::writing::put_count` meets its contract. Assumes nothing.
 use mathlib.Core.Path.{refl}
 use native.Mathlib.Omega.{arith}
 use lib.ListN.{length-set}
 use Rattle.pack.specs.Packs.{wordBytes}
 use Rattle.pack.proofs.Laying.{put-four}
 use borrow.Author.Needs.{needs}
-use Rattle.pack.proofs.Cursor.put_count.Statement.{statement}
-use Rattle.pack.proofs.Cursor.put_count.Tie as tie
+use Rattle.pack.proofs.writing.put_count.Statement.{statement}
+use Rattle.pack.proofs.writing.put_count.Tie as tie
 
 cast-out : tie.Need-cast-out
 cast-out c = search needs

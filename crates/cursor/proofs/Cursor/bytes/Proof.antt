@@ -1,9 +1,9 @@
--- `pack::Cursor::bytes` meets its contract. Assumes nothing.
+-- `cursor::Cursor::bytes` meets its contract. Assumes nothing.
 use native.Mathlib.Omega.{arith}
-use Rattle.pack.proofs.Steps.{cut-bytes, whole-bytes}
+use Rattle.cursor.proofs.Steps.{cut-bytes, whole-bytes}
 use borrow.Author.Needs.{needs}
-use Rattle.pack.proofs.Cursor.bytes.Statement.{statement}
-use Rattle.pack.proofs.Cursor.bytes.Tie as tie
+use Rattle.cursor.proofs.Cursor.bytes.Statement.{statement}
+use Rattle.cursor.proofs.Cursor.bytes.Tie as tie
 
 returns : tie.Need-returns
 returns c = cut-bytes _ _ _ (omega arith)

@@ -1,10 +1,10 @@
--- `pack::Cursor::put_bytes` meets its contract. Assumes nothing.
+-- `pack::writing::put_bytes` meets its contract. Assumes nothing.
 use native.Mathlib.Omega.{arith}
 use Rattle.span.proofs.Putting.{copied-put}
 use Rattle.pack.proofs.Laying.{part-length}
 use borrow.Author.Needs.{needs}
-use Rattle.pack.proofs.Cursor.put_bytes.Statement.{statement}
-use Rattle.pack.proofs.Cursor.put_bytes.Tie as tie
+use Rattle.pack.proofs.writing.put_bytes.Statement.{statement}
+use Rattle.pack.proofs.writing.put_bytes.Tie as tie
 
 copy-requires : tie.Need-copy-requires
 copy-requires c κs = search needs

@@ -8,13 +8,12 @@ use lib.Dec.{leb}
 use lib.ListN.{length, getD}
 use borrow.Author.Tests.{le-leb, lt-leb, leb-true}
 use Rattle.answer.specs.Values.{gives, refused, Checked, passes, fails, check, checked}
-use Rattle.pack.specs.declared.Cursor.{Cursor}
-use Rattle.pack.specs.declared.CountRead.{CountRead}
-use Rattle.pack.specs.declared.CountRead.the-variants.{Count, Cut}
-use Rattle.pack.specs.declared.BytesRead.{BytesRead}
-use Rattle.pack.specs.declared.BytesRead.the-variants.{Bytes, Cut as BytesCut}
-use Rattle.pack.specs.Packs.{word}
-use Rattle.pack.specs.Reading.{count, bytes, countValue, bytesValue}
+use Rattle.cursor.specs.declared.Cursor.{Cursor}
+use Rattle.cursor.specs.declared.CountRead.{CountRead}
+use Rattle.cursor.specs.declared.CountRead.the-variants.{Count, Cut}
+use Rattle.cursor.specs.declared.BytesRead.{BytesRead}
+use Rattle.cursor.specs.declared.BytesRead.the-variants.{Bytes, Cut as BytesCut}
+use Rattle.cursor.specs.Steps.{word, count, bytes, countValue, bytesValue}
 
 -- ---- one row of the table, told by what a call answers that asks nothing else
 

@@ -1,9 +1,9 @@
--- `pack::word` meets its contract: four bytes stay below 2^32. Assumes nothing.
+-- `cursor::word` meets its contract: four bytes stay below 2^32. Assumes nothing.
 use native.Mathlib.Omega.{arith}
-use Rattle.pack.specs.Packs.{word}
+use Rattle.cursor.specs.Steps.{word}
 use borrow.Author.Needs.{needs}
-use Rattle.pack.proofs.word.Statement.{statement}
-use Rattle.pack.proofs.word.Tie as tie
+use Rattle.cursor.proofs.word.Statement.{statement}
+use Rattle.cursor.proofs.word.Tie as tie
 
 shared-slice-read-wide : tie.Need-shared-slice-read-wide
 shared-slice-read-wide c = search needs

@@ -1,0 +1,2 @@
+-- What a reader of the crate `cursor` must believe.
+pub mod Steps
