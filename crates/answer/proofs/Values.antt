@@ -9,7 +9,7 @@ use Rattle.answer.specs.declared.Fault.the-variants.{Dimension, PacketSi
 use Rattle.answer.specs.declared.PacketFault.{PacketFault}
 use Rattle.answer.specs.declared.PacketFault.the-variants.{CellIndex, Conflict}
 use Rattle.answer.specs.declared.Refusal.{Refusal}
-use Rattle.answer.specs.declared.Refusal.the-variants.{Plain, Packet}
+use Rattle.answer.specs.declared.Refusal.the-variants.{Plain, Packet, Line}
 use Rattle.answer.specs.declared.Answer.{Answer}
 use Rattle.answer.specs.declared.Answer.the-variants.{Done, Refused}
 use Rattle.answer.specs.Refusals.{faultNumber, packetFaultNumber}
@@ -38,6 +38,7 @@ module _ {A : Type 0} where
   unfolding refusal
   refusal-gives (Plain f) a e = let z : _≡_ {A = ℕ} 0 1 = cc in omega arith
   refusal-gives (Packet f i) a e = let z : _≡_ {A = ℕ} 0 1 = cc in omega arith
+  refusal-gives (Line n) a e = let z : _≡_ {A = ℕ} 0 1 = cc in omega arith
 
   -- a result means that the checks passed
   pub checked-passes : (c : Checked A) (a : A) → gives a ≡ checked c → c ≡ passes a
@@ -57,6 +58,7 @@ unfolding checked refusal
 checked-fails (passes a) f e = absurd (refusal-gives f a e)
 checked-fails (fails n) (Plain f) e = (n, refl, ap refused cc)
 checked-fails (fails n) (Packet f i) e = let z : _≡_ {A = ℕ} 0 1 = cc in absurd (omega arith)
+checked-fails (fails n) (Line i) e = let z : _≡_ {A = ℕ} 0 1 = cc in absurd (omega arith)
 
 -- what the first checks refuse, all of them refuse
 pub then-refused : {A B : Type 0} (c : Checked A) (next : A → Checked B) (f : Refusal) → refusal {A = A} f ≡ checked c
@@ -65,6 +67,7 @@ unfolding andThen checked refusal
 then-refused (passes a) next f e = absurd (refusal-gives f a e)
 then-refused (fails n) next (Plain f) e = ap refused cc
 then-refused (fails n) next (Packet f i) e = let z : _≡_ {A = ℕ} 0 1 = cc in absurd (omega arith)
+then-refused (fails n) next (Line i) e = let z : _≡_ {A = ℕ} 0 1 = cc in absurd (omega arith)
 
 -- what passes all checks has passed the first
 pub then-passed : {A B : Type 0} (c : Checked A) (next : A → Checked B) (b : B) → andThen c next ≡ passes b
@@ -117,6 +120,12 @@ fault-at Uncorrected = refl
 pub fault-injective : (f g : Fault) → faultNumber f ≡ faultNumber g → f ≡ g
 fault-injective f g e = sym (fault-at f) ∙ ap faultAt e ∙ fault-at g
 
+-- no packet's refusal has the number of a line's
+packet-fault-line : (f : PacketFault) → packetFaultNumber f ≡ 17 → ⊥
+unfolding packetFaultNumber
+packet-fault-line CellIndex e = omega arith
+packet-fault-line Conflict e = omega arith
+
 pub packet-fault-injective : (f g : PacketFault) → packetFaultNumber f ≡ packetFaultNumber g → f ≡ g
 unfolding packetFaultNumber
 packet-fault-injective CellIndex CellIndex e = refl
@@ -129,9 +138,14 @@ pub refusal-injective : {A : Type 0} (f g : Refusal) → refusal {A = A} f ≡ r
 unfolding refusal
 refusal-injective (Plain f) (Plain g) e = ap Plain (fault-injective f g cc)
 refusal-injective (Plain f) (Packet g i) e = let z : _≡_ {A = ℕ} 0 1 = cc in absurd (omega arith)
+refusal-injective (Plain f) (Line n) e = let z : _≡_ {A = ℕ} 0 1 = cc in absurd (omega arith)
 refusal-injective (Packet f i) (Plain g) e = let z : _≡_ {A = ℕ} 0 1 = cc in absurd (omega arith)
 refusal-injective (Packet f i) (Packet g j) e =
     ap₂ Packet (packet-fault-injective f g cc) cc
+refusal-injective (Packet f i) (Line n) e = absurd (packet-fault-line f cc)
+refusal-injective (Line m) (Plain g) e = let z : _≡_ {A = ℕ} 0 1 = cc in absurd (omega arith)
+refusal-injective (Line m) (Packet g j) e = absurd (packet-fault-line g cc)
+refusal-injective (Line m) (Line n) e = ap Line cc
 
 pub answer-injective : (r s : Answer) → answerValue r ≡ answerValue s → r ≡ s
 unfolding answerValue

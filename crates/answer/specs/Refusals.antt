@@ -1,4 +1,4 @@
--- The numbers of document 01, "Where each refusal is checked".
+-- The numbers of document 01, "Where each refusal is checked", and those that requests added.
 use Prim.Native.Nat.{ℕ}
 use Rattle.answer.specs.declared.Fault.{Fault}
 use Rattle.answer.specs.declared.Fault.the-variants.{Dimension, PacketSize, CubeSize, SliceLength, FlagValue, Truncated, HeaderCount, TrailingBytes, SectionCount, Capacity, Contradiction, FileLength, Erasure, Uncorrected}
@@ -24,3 +24,7 @@ faultNumber Uncorrected = 16
 unfoldable pub packetFaultNumber : PacketFault → ℕ
 packetFaultNumber CellIndex = 11
 packetFaultNumber Conflict = 12
+
+-- request P1: "17, the first line that breaks this form, with its number from 1"
+abbrev pub lineFaultNumber : ℕ
+lineFaultNumber = 17

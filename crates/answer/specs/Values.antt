@@ -2,12 +2,12 @@
 use mathlib.Core.Bool.{Bool, cond}
 use Prim.Native.Nat.{ℕ}
 use Rattle.answer.specs.declared.Refusal.{Refusal}
-use Rattle.answer.specs.declared.Refusal.the-variants.{Plain, Packet}
+use Rattle.answer.specs.declared.Refusal.the-variants.{Plain, Packet, Line}
 use Rattle.answer.specs.declared.Answer.{Answer}
 use Rattle.answer.specs.declared.Answer.the-variants.{Done, Refused}
-use Rattle.answer.specs.Refusals.{faultNumber, packetFaultNumber}
+use Rattle.answer.specs.Refusals.{faultNumber, packetFaultNumber, lineFaultNumber}
 
--- "A refusal names its number and, for a packet, the packet's index from 0". What a result carries is the call's own.
+-- "A refusal names its number and, for a packet, the packet's index from 0"; for a line of a text, its number from 1. What a result carries is the call's own.
 pub data Value (A : Type 0) : Type 0 where
   gives : A → Value A
   refused : (number : ℕ) → Value A
@@ -36,6 +36,7 @@ checked (fails n) = refused n
 unfoldable pub refusal : {A : Type 0} → Refusal → Value A
 refusal (Plain f) = refused (faultNumber f)
 refusal (Packet f i) = refused-at (packetFaultNumber f) i
+refusal (Line n) = refused-at lineFaultNumber n
 
 -- the value of an answer without a result of its own
 unfoldable pub answerValue : Answer → Value Unit

@@ -26,10 +26,11 @@ pub enum PacketFault {
     Conflict,
 }
 
-// A refusal: of the whole call, or of a packet with its index.
+// A refusal: of the whole call, of a packet with its index from 0, or of a line of a text with its number from 1.
 pub enum Refusal {
     Plain(Fault),
     Packet(PacketFault, u64),
+    Line(u64),
 }
 
 // What a call without a result of its own answers.
@@ -63,15 +64,17 @@ pub fn number(f: Refusal) -> u64
             PacketFault::CellIndex => 11,
             PacketFault::Conflict => 12,
         },
+        Refusal::Line(_) => 17,
     }
 }
 
-// The place that a refusal names, the index of a packet; 0 where it names none.
+// The place that a refusal names, the index of a packet or the number of a line; 0 where it names none.
 pub fn place(f: Refusal) -> u64
     ensures { λ r. ⌜ r ≡ placeOf {A = Unit} (refusal f) ⌝ }
 {
     match f {
         Refusal::Plain(_) => 0,
         Refusal::Packet(_, i) => i,
+        Refusal::Line(n) => n,
     }
 }

@@ -1,4 +1,4 @@
--- A word tells its value: refusals have the numbers of document 01's table, a result has 0, and only 11 and 12 name a place.
+-- A word tells its value: refusals have the numbers of document 01's table, a result has 0, and only 11, 12 and 17 name a place.
 use mathlib.Core.Path.{_≡_, refl, sym, ap, ap₂, _∙_}
 use mathlib.Core.List.{List}
 use Prim.Native.Nat.{ℕ, _/_, _%_, _≤_, _<_}
@@ -8,7 +8,7 @@ use Rattle.answer.specs.declared.Fault.the-variants.{Dimension, PacketSize, Cub
 use Rattle.answer.specs.declared.PacketFault.{PacketFault}
 use Rattle.answer.specs.declared.PacketFault.the-variants.{CellIndex, Conflict}
 use Rattle.answer.specs.declared.Refusal.{Refusal}
-use Rattle.answer.specs.declared.Refusal.the-variants.{Plain, Packet}
+use Rattle.answer.specs.declared.Refusal.the-variants.{Plain, Packet, Line}
 use Rattle.answer.specs.Refusals.{faultNumber, packetFaultNumber}
 use Rattle.answer.specs.Values.{Value, gives, refused, refused-at, refusal, numberOf}
 use Rattle.receiver.specs.declared.Counts.{Counts}
@@ -23,11 +23,13 @@ pub data Tabled {A : Type 0} : Value A → Type 0 where
   result : (a : A) → Tabled (gives a)
   fault : (f : Fault) → Tabled (refused (faultNumber f))
   packet-fault : (f : PacketFault) (i : ℕ) → Tabled (refused-at (packetFaultNumber f) i)
+  line-fault : (n : ℕ) → Tabled (refused-at 17 n)
 
 pub refusal-tabled : {A : Type 0} (f : Refusal) → Tabled {A = A} (refusal f)
 unfolding refusal
 refusal-tabled (Plain f) = fault f
 refusal-tabled (Packet f i) = packet-fault f i
+refusal-tabled (Line n) = line-fault n
 
 -- a number of the table that is neither 11 nor 12
 fault-range : (f : Fault) → (1 ≤ faultNumber f) × (faultNumber f ≤ 16) × ((m : ℕ) → 11 ≤ m → m ≤ 12 → faultNumber f ≡ m → ⊥)
@@ -52,13 +54,14 @@ unfolding packetFaultNumber
 packet-fault-range CellIndex = (omega arith, omega arith)
 packet-fault-range Conflict = (omega arith, omega arith)
 
-pub tabled-number : {A : Type 0} {v : Value A} → Tabled v → numberOf v ≤ 16
+pub tabled-number : {A : Type 0} {v : Value A} → Tabled v → numberOf v ≤ 17
 unfolding numberOf
 tabled-number (result a) = omega arith
-tabled-number (fault f) = fault-range f .1
-tabled-number (packet-fault f i) = let l : packetFaultNumber f ≤ 16 = omega (arith, packet-fault-range f) in l
+tabled-number (fault f) = let l : faultNumber f ≤ 17 = omega (arith, fault-range f .1) in l
+tabled-number (packet-fault f i) = let l : packetFaultNumber f ≤ 17 = omega (arith, packet-fault-range f) in l
+tabled-number (line-fault n) = omega arith
 
--- neither a result nor a packet's refusal has the number of another refusal
+-- neither a result nor a refusal with a place has the number of another refusal
 fault-result : (f : Fault) → 0 ≡ faultNumber f → ⊥
 fault-result f e = omega (arith, fault-range f .0)
 
@@ -68,6 +71,9 @@ packet-result f e = omega (arith, packet-fault-range f .0)
 fault-packet : (f : Fault) (g : PacketFault) → faultNumber f ≡ packetFaultNumber g → ⊥
 fault-packet f g e = fault-range f .2 (packetFaultNumber g) (packet-fault-range g .0) (packet-fault-range g .1) e
 
+fault-line : (f : Fault) → faultNumber f ≡ 17 → ⊥
+fault-line f e = omega (arith, fault-range f .1)
+
 -- where a count tells its result, two values with one number and one count or place are one
 told : {A : Type 0} (count : A → ℕ) {v w : Value A} → ((a b : A) → v ≡ gives a → w ≡ gives b → count a ≡ count b → a ≡ b) → Tabled v → Tabled w
     → numberOf v ≡ numberOf w → beside count v ≡ beside count w → v ≡ w
@@ -75,12 +81,19 @@ unfolding numberOf beside
 told count same (result a) (result b) n e = ap gives (same a b refl refl e)
 told count same (result a) (fault g) n e = absurd (fault-result g n)
 told count same (result a) (packet-fault g j) n e = absurd (packet-result g n)
+told count same (result a) (line-fault j) n e = absurd (omega arith)
 told count same (fault f) (result b) n e = absurd (fault-result f (sym n))
 told count same (fault f) (fault g) n e = ap refused n
 told count same (fault f) (packet-fault g j) n e = absurd (fault-packet f g n)
+told count same (fault f) (line-fault j) n e = absurd (fault-line f n)
 told count same (packet-fault f i) (result b) n e = absurd (packet-result f (sym n))
 told count same (packet-fault f i) (fault g) n e = absurd (fault-packet g f (sym n))
 told count same (packet-fault f i) (packet-fault g j) n e = ap₂ refused-at n e
+told count same (packet-fault f i) (line-fault j) n e = ap₂ refused-at n e
+told count same (line-fault i) (result b) n e = absurd (omega arith)
+told count same (line-fault i) (fault g) n e = absurd (fault-line g (sym n))
+told count same (line-fault i) (packet-fault g j) n e = ap₂ refused-at n e
+told count same (line-fault i) (line-fault j) n e = ap₂ refused-at n e
 
 -- and so two values with one word
 pub word-told : {A : Type 0} (count : A → ℕ) {v w : Value A} → ((a b : A) → v ≡ gives a → w ≡ gives b → count a ≡ count b → a ≡ b)

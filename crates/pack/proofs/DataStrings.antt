@@ -45,7 +45,7 @@ module _ (sh : Shape) where
       sym (take-at f _ (length f) refl) ∙ ap (take (length f)) behind ∙ take-at g _ (length f) (sym same)
 
 -- four bytes, low first, are those of the number that they hold
-word-bytes : (a b c d : ℕ) → a < 256 → b < 256 → c < 256 → d < 256
+pub word-bytes : (a b c d : ℕ) → a < 256 → b < 256 → c < 256 → d < 256
     → wordBytes (a + 256 * b + 65536 * c + 16777216 * d) ≡ a ∷ b ∷ c ∷ d ∷ []
 unfolding wordBytes
 word-bytes a b c d la lb lc ld =
@@ -105,7 +105,7 @@ module _ (sh : Shape) (ds : List ℕ) (size : length ds ≡ capacity sh) (small 
 
 -- ---- a data string is made of bytes
 
-append-bytes : (xs ys : List ℕ) → ((i : ℕ) → getD xs i 0 < 256) → ((i : ℕ) → getD ys i 0 < 256) → (i : ℕ) → getD (xs ++ ys) i 0 < 256
+pub append-bytes : (xs ys : List ℕ) → ((i : ℕ) → getD xs i 0 < 256) → ((i : ℕ) → getD ys i 0 < 256) → (i : ℕ) → getD (xs ++ ys) i 0 < 256
 append-bytes [] ys a b i = b i
 append-bytes (x ∷ xs) ys a b zero = a 0
 append-bytes (x ∷ xs) ys a b (suc i) = append-bytes xs ys (λ j. a (suc j)) b i
@@ -115,7 +115,7 @@ zeros-bytes zero i = omega arith
 zeros-bytes (suc n) zero = omega arith
 zeros-bytes (suc n) (suc i) = zeros-bytes n i
 
-word-small : (n i : ℕ) → getD (wordBytes n) i 0 < 256
+pub word-small : (n i : ℕ) → getD (wordBytes n) i 0 < 256
 unfolding wordBytes
 word-small n zero = omega arith
 word-small n (suc zero) = omega arith

@@ -14,10 +14,11 @@ use Rattle.shape.specs.Shapes.{Valid, cells}
 use Rattle.shape.proofs.Geometry.{third-lt}
 use Rattle.cursor.specs.declared.Cursor.{Cursor}
 use Rattle.pack.specs.declared.Section.{Section}
-use Rattle.pack.specs.Packs.{wordBytes, shapeBytes, packetBytes, packets, airPack, packetOf, upFrom, firstPackets, everyPacket, packSize, padded}
+use Rattle.pack.specs.Packs.{wordBytes, shapeBytes, packetBytes, packets, airPack, airHead, packetOf, upFrom, firstPackets, everyPacket, packSize, padded}
 use Rattle.pack.specs.Reading.{fileOf}
-use Rattle.pack.specs.Inner.Writing.{Laid, coordinates}
-use Rattle.pack.proofs.Written.{packets-length, packets-append, firstPackets-length, firstPackets-sized, firstPackets-more, everyPacket-length, pack-size}
+use Rattle.pack.specs.Writing.{Laid, CoordinatesOutcome, coordinates-written, coordinates-outside}
+use Rattle.pack.specs.Inner.Writing.{coordinates}
+use Rattle.pack.proofs.Written.{packets-length, packets-append, firstPackets-length, firstPackets-sized, firstPackets-more, everyPacket-length, air-laid, pack-size}
 
 -- ---- one part behind the other
 
@@ -34,7 +35,7 @@ part-length src from n h = length-take-le n (drop from src) (omega (arith, lengt
 
 -- ---- single bytes
 
-put-three : (s : List ℕ) (at a b c : ℕ) → at + 3 ≤ length s → Put s at (a ∷ b ∷ c ∷ []) (set (set (set s at a) (at + 1) b) (at + 2) c)
+pub put-three : (s : List ℕ) (at a b c : ℕ) → at + 3 ≤ length s → Put s at (a ∷ b ∷ c ∷ []) (set (set (set s at a) (at + 1) b) (at + 2) c)
 put-three s at a b c h =
     put-more (at + 2) c (put-more (at + 1) b (put-one s at a (omega arith)) refl (omega arith)) refl (omega arith)
 
@@ -59,11 +60,10 @@ shape-put s sh at v h =
     rw (a, b, c, e) (put-five s at (sh .l1) (sh .l2) (sh .l3) (sh .w % 256) (sh .w / 256) h)
 
 -- a packet's coordinates fit a byte each
-pub coordinates-put : (s : List ℕ) (sh : Shape) (n at : ℕ) → Valid sh → n < cells sh → at + 3 ≤ length s
-    → Put s at (coordinates sh n)
-    (set (set (set s at (n % sh .l1 % 256)) (at + 1) (n / sh .l1 % sh .l2 % 256)) (at + 2) (n / (sh .l1 * sh .l2) % 256))
+pub coordinates-fit : (sh : Shape) (n : ℕ) → Valid sh → n < cells sh
+    → n % sh .l1 % 256 ∷ n / sh .l1 % sh .l2 % 256 ∷ n / (sh .l1 * sh .l2) % 256 ∷ [] ≡ coordinates sh n
 unfolding coordinates
-coordinates-put s sh n at v h room =
+coordinates-fit sh n v h =
     let low : 9 ≤ sh .l1 * sh .l2 = mul-le-mul (v .l1-low) (v .l2-low) in
     let p : n % sh .l1 < sh .l1 = mod-lt n (omega (arith, v .l1-low)) in
     let q : n / sh .l1 % sh .l2 < sh .l2 = mod-lt (n / sh .l1) (omega (arith, v .l2-low)) in
@@ -71,7 +71,13 @@ coordinates-put s sh n at v h room =
     let a : n % sh .l1 % 256 ≡ n % sh .l1 = mod-eq-of-lt (omega (arith, v .l1-high)) in
     let b : n / sh .l1 % sh .l2 % 256 ≡ n / sh .l1 % sh .l2 = mod-eq-of-lt (omega (arith, v .l2-high)) in
     let c : n / (sh .l1 * sh .l2) % 256 ≡ n / (sh .l1 * sh .l2) = mod-eq-of-lt (omega (arith, v .l3-high)) in
-    rw (a, b, c) (put-three s at (n % sh .l1) (n / sh .l1 % sh .l2) (n / (sh .l1 * sh .l2)) room)
+    rw (a, b, c)
+
+-- coordinates that were written, where there was room for them
+pub coordinates-told : {s after : List ℕ} {c next : Cursor} {x y z : ℕ} → CoordinatesOutcome s c x y z after next → c .at + 3 ≤ length s
+    → Laid s c (x ∷ y ∷ z ∷ []) after next
+coordinates-told (coordinates-written room l) h = l
+coordinates-told (coordinates-outside short same kept) h = absurd (omega arith)
 
 -- ---- packets
 
@@ -112,18 +118,17 @@ packets-all sh xs n e p = rw (sym e) p
 
 -- ---- the three sections
 
-pub sections-laid : {s a b d e after : List ℕ} {c₀ c₁ c₂ c₃ c₄ : Cursor} (sh : Shape) (xs : List ℕ) (count : ℕ) → count ≡ cells sh
-    → length xs ≡ sh .w * cells sh → length s ≡ packSize sh → c₀ .at ≡ 0 → Laid s c₀ (wordBytes 5) a c₁ → Laid a c₁ (shapeBytes sh) b c₂
-    → Laid b c₂ (wordBytes 0) d c₃ → Laid d c₃ (wordBytes count) e c₄ → Put e (c₄ .at) (packets (everyPacket sh xs)) after
-    → after ≡ airPack sh (everyPacket sh xs)
-unfolding airPack
-sections-laid {s} {a} {b} {d} {e} {after} {c₀} {c₁} {c₂} {c₃} {c₄} sh xs count same size room start first second third fourth fifth =
-    let last : Laid e c₄ (packets (everyPacket sh xs)) after (record { at = c₄ .at + length (packets (everyPacket sh xs)) })
-    = record { put = fifth; behind = refl } in
+pub sections-laid : {s e after : List ℕ} {c₀ c₁ : Cursor} (sh : Shape) (xs : List ℕ) (count : ℕ) → count ≡ cells sh
+    → length xs ≡ sh .w * cells sh → length s ≡ packSize sh → c₀ .at ≡ 0 → Laid s c₀ (airHead sh count) e c₁
+    → Put e (c₁ .at) (packets (everyPacket sh xs)) after → after ≡ airPack sh (everyPacket sh xs)
+sections-laid {s} {e} {after} {c₀} {c₁} sh xs count same size room start head rest =
+    let last : Laid e c₁ (packets (everyPacket sh xs)) after (record { at = c₁ .at + length (packets (everyPacket sh xs)) })
+    = record { put = rest; behind = refl } in
     let n : length (everyPacket sh xs) ≡ count = everyPacket-length sh xs ∙ sym same in
-    let counted : Laid d c₃ (wordBytes (length (everyPacket sh xs))) e c₄ = rw n fourth in
-    let whole = laid-laid first (laid-laid second (laid-laid third (laid-laid counted last))) in
-    put-all (rw start at (whole .put)) (pack-size sh xs size ∙ sym room)
+    let counted : Laid s c₀ (airHead sh (length (everyPacket sh xs))) e c₁ = rw n head in
+    let parts : airPack sh (everyPacket sh xs) ≡ airHead sh (length (everyPacket sh xs)) ++ packets (everyPacket sh xs)
+    = air-laid sh (everyPacket sh xs) in
+    put-all (rw (start, ← parts) at (laid-laid counted last .put)) (pack-size sh xs size ∙ sym room)
 
 -- ---- the data string
 

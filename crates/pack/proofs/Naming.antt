@@ -1,4 +1,4 @@
--- Packets that name a cell: the tests of `packet`, and what a pack that was read needs of them.
+-- Packets as they stand in a pack, and those that name a cell: what the calls answer, and what a pack that was read needs of them.
 use mathlib.Core.Path.{_≡_, refl, sym, ap, _∙_}
 use mathlib.Core.Bool.{Bool, true, false, cond, false≢true}
 use mathlib.Core.List.{List}
@@ -18,12 +18,14 @@ use Rattle.pack.specs.declared.Section.{Section}
 use Rattle.pack.specs.declared.Header.{Header}
 use Rattle.pack.specs.declared.PacketRead.{PacketRead}
 use Rattle.pack.specs.declared.PacketRead.the-variants.{Names, Absent}
+use Rattle.pack.specs.declared.PartsRead.{PartsRead}
+use Rattle.pack.specs.declared.PartsRead.the-variants.{Parts, Absent as NoParts}
 use Rattle.pack.specs.Reading.{packetSize, airOf}
-use Rattle.pack.specs.Packets.{packetAt, source, InRange, Named, PacketOutcome, named, unnamed}
-use Rattle.pack.specs.Inner.Packets.{withinLimits, packetFrom}
+use Rattle.pack.specs.Packets.{packetAt, packetIn, source, Stands, PartsOutcome, standing, not-standing, InRange, Named, PacketOutcome, named, unnamed}
+use Rattle.pack.specs.Inner.Packets.{withinLimits, namedBy}
 use Rattle.pack.proofs.Sound.{air-sound, packets-le}
 
--- ---- the tests of `packet`
+-- ---- the limits of a packet
 
 pub record Limits (sh : Shape) (i : ℕ) : Type 0 where
   pub l1-high : sh .l1 ≤ 255
@@ -39,7 +41,7 @@ limits-parts sh i t =
     let (c, d) = both-parts (leb (sh .w) 1024) (ltb i 4294967296) cd in
     record { l1-high = leb-true _ _ a; l2-high = leb-true _ _ b; w-high = leb-true _ _ c; index = ltb-true _ _ d }
 
-limits-true : (sh : Shape) (i : ℕ) → Limits sh i → withinLimits sh i ≡ true
+pub limits-true : (sh : Shape) (i : ℕ) → Limits sh i → withinLimits sh i ≡ true
 unfolding withinLimits
 limits-true sh i l =
     both-true _ _ (le-leb _ _ (l .l1-high)) (both-true _ _ (le-leb _ _ (l .l2-high)) (both-true _ _ (le-leb _ _ (l .w-high)) (lt-ltb i 4294967296 (l .index))))
@@ -56,6 +58,41 @@ cell-fits l1 l2 b c g h p q =
     let m : b + l2 * c ≤ 65280 = omega (arith, cell-small l2 b c h p q) in
     mul-le-mul g m
 
+-- ---- the parts of a packet
+
+module _ (p : List ℕ) (h : Header) (s : Section) (i : ℕ) where
+  pub parts-beyond-limits : withinLimits (h .shape) i ≡ false → PartsOutcome p h s i NoParts
+  parts-beyond-limits t =
+      not-standing (λ (n : Stands p h s i).
+      false≢true (sym t ∙ limits-true (h .shape) i (record { l1-high = n .l1-high; l2-high = n .l2-high; w-high = n .w-high; index = n .index })))
+
+  pub parts-beyond-pack : length p < s .at + i * (3 + h .shape .w) + (3 + h .shape .w) → PartsOutcome p h s i NoParts
+  unfolding packetAt packetSize
+  parts-beyond-pack l =
+      not-standing (λ (n : Stands p h s i).
+      let m : s .at + i * (3 + h .shape .w) + (3 + h .shape .w) ≤ length p = n .inside in omega arith)
+
+  pub parts-stand : withinLimits (h .shape) i ≡ true → s .at + i * (3 + h .shape .w) + (3 + h .shape .w) ≤ length p
+      → PartsOutcome p h s i
+      (Parts (getD p (s .at + i * (3 + h .shape .w)) 0) (getD p (s .at + i * (3 + h .shape .w) + 1) 0) (getD p (s .at + i * (3 + h .shape .w) + 2) 0)
+      (s .at + i * (3 + h .shape .w) + 3))
+  unfolding packetAt packetSize packetIn
+  parts-stand t inside =
+      let l = limits-parts (h .shape) i t in
+      standing (record { l1-high = l .l1-high; l2-high = l .l2-high; w-high = l .w-high; index = l .index; inside = inside })
+
+  -- a packet that stands in its pack is answered by its parts
+  pub parts-told : (r : PartsRead) → PartsOutcome p h s i r → Stands p h s i
+      → r ≡ Parts (packetIn p h s i .a) (packetIn p h s i .b) (packetIn p h s i .c) (packetAt h s i + 3)
+  parts-told r (standing n) m = refl
+  parts-told r (not-standing never) m = absurd (never m)
+
+  pub parts-standing : (a b c at : ℕ) (r : PartsRead) → PartsOutcome p h s i r → r ≡ Parts a b c at → Stands p h s i
+  parts-standing a b c at r (standing n) e = n
+  parts-standing a b c at r (not-standing never) e = let z : _≡_ {A = ℕ} 0 1 = cc in absurd (omega arith)
+
+-- ---- the cell of a packet
+
 -- check 11 as one test
 unfoldable coordinates : List ℕ → Header → Section → ℕ → Bool
 coordinates p h s i =
@@ -63,42 +100,34 @@ coordinates p h s i =
     (both (ltb (getD p (packetAt h s i + 1) 0) (h .shape .l2)) (ltb (getD p (packetAt h s i + 2) 0) (h .shape .l3)))
 
 module _ (p : List ℕ) (h : Header) (s : Section) (i : ℕ) where
-  pub beyond-limits : withinLimits (h .shape) i ≡ false → PacketOutcome p h s i Absent
-  beyond-limits t =
-      unnamed (λ (n : Named p h s i).
-      false≢true (sym t ∙ limits-true (h .shape) i (record { l1-high = n .l1-high; l2-high = n .l2-high; w-high = n .w-high; index = n .index })))
+  -- what does not stand in the pack names no cell
+  pub parts-absent : (r : PartsRead) → PartsOutcome p h s i r → r ≡ NoParts → PacketOutcome p h s i Absent
+  parts-absent r (standing n) e = let z : _≡_ {A = ℕ} 0 1 = cc in absurd (omega arith)
+  parts-absent r (not-standing never) e = unnamed (λ (n : Named p h s i). never (n .stands))
 
-  pub beyond-pack : length p < s .at + i * (3 + h .shape .w) + (3 + h .shape .w) → PacketOutcome p h s i Absent
-  unfolding packetAt packetSize
-  beyond-pack l =
-      unnamed (λ (n : Named p h s i).
-      let m : s .at + i * (3 + h .shape .w) + (3 + h .shape .w) ≤ length p = n .inside in omega arith)
+  tested : Stands p h s i → (t : Bool) → coordinates p h s i ≡ t
+      → PacketOutcome p h s i (cond t (Names (source p h s .place i) (packetAt h s i + 3)) Absent)
+  unfolding coordinates
+  tested n true e =
+      let (a, bc) = both-parts (ltb (getD p (packetAt h s i) 0) (h .shape .l1)) _ e in
+      let (b, c) = both-parts (ltb (getD p (packetAt h s i + 1) 0) (h .shape .l2)) (ltb (getD p (packetAt h s i + 2) 0) (h .shape .l3)) bc in
+      named (record { stands = n; range = record { first = ltb-true _ _ a; second = ltb-true _ _ b; third = ltb-true _ _ c } })
+  tested n false e =
+      unnamed (λ (m : Named p h s i).
+      let r = m .range in
+      false≢true (sym e ∙ both-true _ _ (lt-ltb _ _ (r .first)) (both-true _ _ (lt-ltb _ _ (r .second)) (lt-ltb _ _ (r .third)))))
 
-  module _ (l : Limits (h .shape) i) (inside : packetAt h s i + packetSize h ≤ length p) where
-    within-pack : (t : Bool) → coordinates p h s i ≡ t
-        → PacketOutcome p h s i (cond t (Names (source p h s .place i) (packetAt h s i + 3)) Absent)
-    unfolding coordinates
-    within-pack true e =
-        let (a, bc) = both-parts (ltb (getD p (packetAt h s i) 0) (h .shape .l1)) _ e in
-        let (b, c) = both-parts (ltb (getD p (packetAt h s i + 1) 0) (h .shape .l2)) (ltb (getD p (packetAt h s i + 2) 0) (h .shape .l3)) bc in
-        named (record {
-          l1-high = l .l1-high;
-          l2-high = l .l2-high;
-          w-high = l .w-high;
-          index = l .index;
-          inside = inside;
-          range = record { first = ltb-true _ _ a; second = ltb-true _ _ b; third = ltb-true _ _ c };
-        })
-    within-pack false e =
-        unnamed (λ (n : Named p h s i).
-        let r = n .range in
-        false≢true (sym e ∙ both-true _ _ (lt-ltb _ _ (r .first)) (both-true _ _ (lt-ltb _ _ (r .second)) (lt-ltb _ _ (r .third)))))
-
-  pub packet-outcome : (r : PacketRead) → withinLimits (h .shape) i ≡ true
-      → s .at + i * (3 + h .shape .w) + (3 + h .shape .w) ≤ length p
-      → r ≡ packetFrom p (h .shape) (s .at + i * (3 + h .shape .w)) → PacketOutcome p h s i r
-  unfolding packetAt packetSize packetFrom source coordinates
-  packet-outcome r t inside e = rw e (within-pack (limits-parts (h .shape) i t) inside (coordinates p h s i) refl)
+  -- the parts of a packet name its cell, where they pass check 11
+  pub parts-named : (a b c at : ℕ) (q : PartsRead) (r : PacketRead) → PartsOutcome p h s i q → q ≡ Parts a b c at
+      → r ≡ namedBy (h .shape) a b c at → PacketOutcome p h s i r
+  unfolding namedBy packetIn source coordinates
+  parts-named a b c at q r (standing n) e f =
+      let first : a ≡ getD p (packetAt h s i) 0 = cc in
+      let second : b ≡ getD p (packetAt h s i + 1) 0 = cc in
+      let third : c ≡ getD p (packetAt h s i + 2) 0 = cc in
+      let behind : at ≡ packetAt h s i + 3 = cc in
+      rw (f, first, second, third, behind) (tested n (coordinates p h s i) refl)
+  parts-named a b c at q r (not-standing never) e f = let z : _≡_ {A = ℕ} 0 1 = cc in absurd (omega arith)
 
 -- ---- for callers
 
@@ -126,11 +155,13 @@ air-named p h s i e small l r =
     let sound = air-sound p h s e in
     let v = sound .header .valid in
     record {
-      l1-high = v .l1-high;
-      l2-high = v .l2-high;
-      w-high = v .w-high;
-      index = omega (arith, sound .few small);
-      inside = omega (arith, sound .ends, stretch-end i (s .count) (packetSize h) l);
+      stands = record {
+        l1-high = v .l1-high;
+        l2-high = v .l2-high;
+        w-high = v .w-high;
+        index = omega (arith, sound .few small);
+        inside = omega (arith, sound .ends, stretch-end i (s .count) (packetSize h) l);
+      };
       range = r;
     }
 
@@ -150,5 +181,5 @@ pub packet-told : (p : List ℕ) (h : Header) (s : Section) (i n from : ℕ) (r 
 unfolding source packetSize
 packet-told p h s i n from r (named m) e =
     let begins : packetAt h s i + 3 ≡ from = cc in
-    record { cell = cc; byte = λ w. ap (λ (k : ℕ). getD p (k + w) 0) (sym begins); inside = omega (arith, m .inside) }
+    record { cell = cc; byte = λ w. ap (λ (k : ℕ). getD p (k + w) 0) (sym begins); inside = omega (arith, m .stands .inside) }
 packet-told p h s i n from r (unnamed never) e = let z : _≡_ {A = ℕ} 0 1 = cc in absurd (omega arith)

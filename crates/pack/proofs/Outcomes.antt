@@ -1,8 +1,7 @@
 -- The checks of the writing calls, and what a caller learns from their outcomes.
 use mathlib.Core.Path.{_≡_, refl, sym, _∙_}
 use mathlib.Core.List.{List}
-use Prim.Native.Nat.{ℕ, _+_, _*_, _≤_}
-use native.Mathlib.Nat.{mul-le-mul}
+use Prim.Native.Nat.{ℕ, _+_, _*_, _≤_, _<_}
 use native.Mathlib.Omega.{arith}
 use lib.Dec.{eqb}
 use lib.ListN.{length}
@@ -18,23 +17,20 @@ use Rattle.shape.specs.Shapes.{Valid, cells, sizes, shapeChecked}
 use Rattle.shape.proofs.Valid.{both-parts, both-true, shape-passed, valid-passes, volume-le}
 use Rattle.pack.specs.declared.PackSize.{PackSize}
 use Rattle.pack.specs.declared.PackSize.the-variants.{Bytes, Refused as NoSize}
-use Rattle.pack.specs.Packs.{airPack, everyPacket, packSize}
+use Rattle.pack.specs.Packs.{airPack, everyPacket, airSize, packSize}
 use Rattle.pack.specs.Writing.{sizeChecked, sizeValue, airChecked, AirOutcome, air-kept, air-written}
 
 -- ---- sizes
 
--- the written pack's size fits a machine word
-pub size-le : (n w : ℕ) → n ≤ 16581375 → w ≤ 1024 → n * (3 + w) ≤ 17029072125
-size-le n w p q = let k : 3 + w ≤ 1027 = omega arith in mul-le-mul p k
-
-pub sizes-small : (sh : Shape) (z : Sizes) → shapeChecked sh ≡ passes z → (z .cells ≤ 16581375) × (sh .w ≤ 1024)
+-- the sizes of a shape that passed fit a machine word
+pub sizes-small : (sh : Shape) (z : Sizes) → shapeChecked sh ≡ passes z → (z .cells < 4294967296) × (sh .w ≤ 1024)
 unfolding sizes cells
 sizes-small sh z e =
     let (v, same) = shape-passed sh z e in
-    (rw same (volume-le _ _ _ (v .l1-high) (v .l2-high) (v .l3-high)), v .w-high)
+    (rw same (omega (arith, volume-le _ _ _ (v .l1-high) (v .l2-high) (v .l3-high))), v .w-high)
 
 pub size-told : (sh : Shape) (z : Sizes) → shapeChecked sh ≡ passes z → 17 + z .cells * (3 + sh .w) ≡ packSize sh
-unfolding sizes packSize
+unfolding sizes packSize airSize
 size-told sh z e = rw (shape-passed sh z e .1)
 
 -- what a caller with a valid shape learns from `pack_bytes`

@@ -29,17 +29,17 @@ use Rattle.cursor.proofs.Steps.{word-lt}
 -- ---- a step that passed
 
 module _ {A : Type 0} (p : List ℕ) (c : Cursor) (a : A) where
-  count-passed : (next : ℕ → Cursor → Checked A) → count p c next ≡ passes a
+  pub count-passed : (next : ℕ → Cursor → Checked A) → count p c next ≡ passes a
       → (c .at + 4 ≤ length p) × (next (word p (c .at)) (record { at = c .at + 4 }) ≡ passes a)
   unfolding count
   count-passed next e = let (t, rest) = check-passed _ 6 _ a e in (leb-true _ _ t, rest)
 
-  bytes-passed : (n : ℕ) (next : ℕ → Cursor → Checked A) → bytes p c n next ≡ passes a
+  pub bytes-passed : (n : ℕ) (next : ℕ → Cursor → Checked A) → bytes p c n next ≡ passes a
       → (c .at + n ≤ length p) × (next (c .at) (record { at = c .at + n }) ≡ passes a)
   unfolding bytes
   bytes-passed n next e = let (t, rest) = check-passed _ 6 _ a e in (leb-true _ _ t, rest)
 
-  end-passed : (done : Checked A) → end p c done ≡ passes a → (length p ≡ c .at) × (done ≡ passes a)
+  pub end-passed : (done : Checked A) → end p c done ≡ passes a → (length p ≡ c .at) × (done ≡ passes a)
   unfolding end
   end-passed done e = let (t, rest) = check-passed _ 8 _ a e in (eqb-true _ _ t, rest)
 

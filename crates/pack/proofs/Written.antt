@@ -19,7 +19,7 @@ use Rattle.cursor.specs.declared.Cursor.{Cursor}
 use Rattle.pack.specs.declared.Section.{Section}
 use Rattle.pack.specs.declared.Header.{Header}
 use Rattle.cursor.specs.Steps.{word}
-use Rattle.pack.specs.Packs.{wordBytes, shapeBytes, Packet, packetBytes, packets, jobPack, airPack, packetOf, upFrom, firstPackets, everyPacket, packSize, padded, dataString}
+use Rattle.pack.specs.Packs.{wordBytes, shapeBytes, Packet, packetBytes, packets, jobPack, airPack, airHead, packetOf, upFrom, firstPackets, everyPacket, airSize, packSize, padded, dataString}
 use Rattle.cursor.specs.Steps.{count, bytes}
 use Rattle.pack.specs.Reading.{end, shapeAt, headerFor, headed, headerOf, jobBehind, jobOf, packetSize, airBehind, airOf, fileOf}
 use Rattle.pack.specs.Packets.{packetAt, packetNo, source, sourceOf}
@@ -280,7 +280,7 @@ module _ (sh : Shape) (file : List ℕ) (v : Valid sh) (fits : 4 + length file �
 
 -- ---- every cell in cell order
 
-getD-inside : {A : Type 0} (l : List A) (i : ℕ) (d e : A) → i < length l → getD l i d ≡ getD l i e
+pub getD-inside : {A : Type 0} (l : List A) (i : ℕ) (d e : A) → i < length l → getD l i d ≡ getD l i e
 getD-inside [] i d e h = absurd (omega arith)
 getD-inside (a ∷ l) zero d e h = refl
 getD-inside (a ∷ l) (suc i) d e h = getD-inside l i d e (omega arith)
@@ -296,7 +296,7 @@ upFrom-at n zero i h = absurd (omega arith)
 upFrom-at n (suc k) zero h = sym (add-zero n)
 upFrom-at n (suc k) (suc i) h = upFrom-at (suc n) k i (omega arith) ∙ omega arith
 
-upFrom-more : (n k : ℕ) → upFrom n (suc k) ≡ upFrom n k ++ ((n + k) ∷ [])
+pub upFrom-more : (n k : ℕ) → upFrom n (suc k) ≡ upFrom n k ++ ((n + k) ∷ [])
 unfolding upFrom
 upFrom-more n zero = rw (add-zero n)
 upFrom-more n (suc k) =
@@ -355,13 +355,18 @@ module _ (sh : Shape) (xs : List ℕ) where
     unfolding everyPacket
     everyPacket-sized = firstPackets-sized (cells sh) (omega arith)
 
+-- what stands before the packets, and the packets
+pub air-laid : (sh : Shape) (ps : List Packet) → airPack sh ps ≡ airHead sh (length ps) ++ packets ps
+unfolding airPack airHead
+air-laid sh ps = simp append-assoc
+
 pub airPack-length : (sh : Shape) (ps : List Packet) → Sized (sh .w) ps → length (airPack sh ps) ≡ 17 + length ps * (3 + sh .w)
 unfolding airPack shapeBytes wordBytes
 airPack-length sh ps all = omega (arith, packets-length (sh .w) ps all)
 
 -- the written pack has the size that document 01 gives
 pub pack-size : (sh : Shape) (xs : List ℕ) → length xs ≡ sh .w * cells sh → length (airPack sh (everyPacket sh xs)) ≡ packSize sh
-unfolding packSize
+unfolding packSize airSize
 pack-size sh xs size =
     airPack-length sh (everyPacket sh xs) (everyPacket-sized sh xs size)
     ∙ ap (λ (n : ℕ). 17 + n * (3 + sh .w)) (everyPacket-length sh xs)

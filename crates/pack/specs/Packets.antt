@@ -1,5 +1,5 @@
 -- The packets of a pack as a sequence: for each index the cell it names and its bytes (document 01, "Packs").
-use mathlib.Core.List.{List, []}
+use mathlib.Core.List.{List, [], map}
 use Prim.Native.Nat.{ℕ, _+_, _*_, _^_, _≤_, _<_}
 use lib.ListN.{length, getD, take, drop}
 use Rattle.shape.specs.declared.Shape.{Shape}
@@ -8,7 +8,9 @@ use Rattle.pack.specs.declared.Section.{Section}
 use Rattle.pack.specs.declared.Header.{Header}
 use Rattle.pack.specs.declared.PacketRead.{PacketRead}
 use Rattle.pack.specs.declared.PacketRead.the-variants.{Names, Absent}
-use Rattle.pack.specs.Packs.{Packet}
+use Rattle.pack.specs.declared.PartsRead.{PartsRead}
+use Rattle.pack.specs.declared.PartsRead.the-variants.{Parts, Absent as NoParts}
+use Rattle.pack.specs.Packs.{Packet, upFrom}
 use Rattle.pack.specs.Reading.{packetSize}
 
 pub record Source : Type 0 where
@@ -40,6 +42,10 @@ packetIn p h s i =
       bytes = take (h .shape .w) (drop (packetAt h s i + 3) p);
     }
 
+-- the packets that stand in a section, in pack order
+unfoldable pub packetsIn : List ℕ → Header → Section → List Packet
+packetsIn p h s = map (packetIn p h s) (upFrom 0 (s .count))
+
 -- the packets of a list
 unfoldable pub packetNo : List Packet → ℕ → Packet
 packetNo ps i = getD ps i (record { a = 0; b = 0; c = 0; bytes = [] })
@@ -52,19 +58,30 @@ sourceOf sh ps =
       byte = λ i w. getD (packetNo ps i .bytes) w 0;
     }
 
+-- Packet i stands in the pack, whatever cell it names. This holds of every packet of a pack that was read.
+pub record Stands (p : List ℕ) (h : Header) (s : Section) (i : ℕ) : Type 0 where
+  pub l1-high : h .shape .l1 ≤ 255
+  pub l2-high : h .shape .l2 ≤ 255
+  pub w-high : h .shape .w ≤ 1024
+  pub index : i < 2 ^ 32
+  pub inside : packetAt h s i + packetSize h ≤ length p
+
+-- What `packet_parts` answers: a, b, c and where the cell's bytes begin, or that no packet stands there.
+pub data PartsOutcome (p : List ℕ) (h : Header) (s : Section) (i : ℕ) : PartsRead → Type 0 where
+  standing :
+      Stands p h s i →
+      PartsOutcome p h s i (Parts (packetIn p h s i .a) (packetIn p h s i .b) (packetIn p h s i .c) (packetAt h s i + 3))
+  not-standing : (Stands p h s i → ⊥) → PartsOutcome p h s i NoParts
+
 -- 11: "a, b or c not below its length" does not hold of packet i
 pub record InRange (p : List ℕ) (h : Header) (s : Section) (i : ℕ) : Type 0 where
   pub first : getD p (packetAt h s i) 0 < h .shape .l1
   pub second : getD p (packetAt h s i + 1) 0 < h .shape .l2
   pub third : getD p (packetAt h s i + 2) 0 < h .shape .l3
 
--- Packet i stands in the pack and names a cell. All but the last hold of every packet of a pack that was read.
+-- Packet i stands in the pack and names a cell.
 pub record Named (p : List ℕ) (h : Header) (s : Section) (i : ℕ) : Type 0 where
-  pub l1-high : h .shape .l1 ≤ 255
-  pub l2-high : h .shape .l2 ≤ 255
-  pub w-high : h .shape .w ≤ 1024
-  pub index : i < 2 ^ 32
-  pub inside : packetAt h s i + packetSize h ≤ length p
+  pub stands : Stands p h s i
   pub range : InRange p h s i
 
 -- What `packet` answers: the cell and where its bytes begin, or that no packet stands there or names a cell.

@@ -36,6 +36,10 @@ jobPack sh file = wordBytes 5 ++ (shapeBytes sh ++ (wordBytes (length file) ++ (
 unfoldable pub airPack : Shape → List Packet → List ℕ
 airPack sh ps = wordBytes 5 ++ (shapeBytes sh ++ (wordBytes 0 ++ (wordBytes (length ps) ++ packets ps)))
 
+-- what stands before the packets of an air pack with so many
+unfoldable pub airHead : Shape → ℕ → List ℕ
+airHead sh n = wordBytes 5 ++ (shapeBytes sh ++ (wordBytes 0 ++ wordBytes n))
+
 -- the packet of cell n of a cube
 unfoldable pub packetOf : Shape → List ℕ → ℕ → Packet
 packetOf sh xs n =
@@ -53,9 +57,13 @@ firstPackets sh xs n = map (packetOf sh xs) (upFrom 0 n)
 unfoldable pub everyPacket : Shape → List ℕ → List Packet
 everyPacket sh xs = firstPackets sh xs (cells sh)
 
+-- the bytes of an air pack with so many packets
+unfoldable pub airSize : Shape → ℕ → ℕ
+airSize sh n = 17 + n * (3 + sh .w)
+
 -- "17 + cells × (3 + W) bytes"
 unfoldable pub packSize : Shape → ℕ
-packSize sh = 17 + cells sh * (3 + sh .w)
+packSize sh = airSize sh (cells sh)
 
 -- "the file's length in four bytes, low first, the file, then 00h", so many bytes in all
 unfoldable pub padded : ℕ → List ℕ → List ℕ

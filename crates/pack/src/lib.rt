@@ -1,12 +1,17 @@
 // Packs: three sections, each read and written from the byte where the one before ended. Nobody else knows where a byte of a pack stands.
+mod air;
 mod packets;
 mod reading;
 mod writing;
 
+pub use air::air_bytes;
+pub use air::start_air;
+pub use air::write_coordinates;
 use answer::Refusal;
 use cursor::Cursor;
 pub use packets::first_outside;
 pub use packets::packet;
+pub use packets::packet_parts;
 pub use reading::read_air;
 pub use reading::read_header;
 pub use reading::read_job;
@@ -51,7 +56,19 @@ pub enum PacketRead {
     Absent,
 }
 
-// The bytes of a pack with every cell.
+// A packet: a, b and c, and where its cell's bytes begin; or there is none.
+pub enum PartsRead {
+    Parts(u8, u8, u8, usize),
+    Absent,
+}
+
+// The cursor behind what stands before the packets of an air pack.
+pub enum AirStart {
+    Started(Cursor),
+    Refused(Refusal),
+}
+
+// The bytes of a pack with every cell, or with so many packets.
 pub enum PackSize {
     Bytes(usize),
     Refused(Refusal),

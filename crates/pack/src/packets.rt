@@ -1,15 +1,15 @@
 // The packets of a section: the cell that each names and where its bytes stand, and check 11.
 use crate::Header;
 use crate::PacketRead;
+use crate::PartsRead;
 use crate::Section;
 use cursor::wide;
 use shape::Shape;
 ghost use mathlib.Core.Path.{_≡_};
 ghost use mathlib.Core.Bool.{true, false};
 ghost use Prim.Native.Nat.{_+_, _≤_, _<_};
-ghost use lib.ListN.{length};
-ghost use Rattle.pack.specs.Packets.{PacketOutcome, FirstOutside};
-ghost use Rattle.pack.specs.Inner.Packets.{withinLimits, packetFrom};
+ghost use Rattle.pack.specs.Packets.{PacketOutcome, PartsOutcome, FirstOutside};
+ghost use Rattle.pack.specs.Inner.Packets.{withinLimits, namedBy};
 
 // The first packet of the section that names no cell, or the section's count.
 pub fn first_outside(pack: &[u8], h: Header, s: Section) -> usize
@@ -27,20 +27,33 @@ pub fn first_outside(pack: &[u8], h: Header, s: Section) -> usize
     count
 }
 
-// Packet i of the section. The limits keep all products in a machine word; every header and count that was read is within them.
+// Packet i of the section: the cell that it names.
 pub fn packet(pack: &[u8], h: Header, s: Section, i: usize) -> PacketRead
     ensures { λ r. ⌜ PacketOutcome (now (pack .entry)) h s i r ⌝ }
 {
+    let parts = packet_parts(pack, h, s, i);
+    let PartsRead::Parts(a, b, c, at) = parts else {
+        return PacketRead::Absent;
+    };
+    named(h.shape, wide(a), wide(b), wide(c), at)
+}
+
+// Packet i of the section as it stands there, without check 11. The limits keep all products in a machine word; every header and count that
+// was read is within them.
+pub fn packet_parts(pack: &[u8], h: Header, s: Section, i: usize) -> PartsRead
+    ensures { λ r. ⌜ PartsOutcome (now (pack .entry)) h s i r ⌝ }
+{
     let sh = h.shape;
     if !within_limits(sh, i) {
-        return PacketRead::Absent;
+        return PartsRead::Absent;
     }
     let size = 3 + sh.w;
     let ahead = i * size;
     if !lies_in(pack.len(), s.at, ahead, size) {
-        return PacketRead::Absent;
+        return PartsRead::Absent;
     }
-    packet_from(pack, sh, s.at + ahead)
+    let at = s.at + ahead;
+    PartsRead::Parts(pack[at], pack[at + 1], pack[at + 2], at + 3)
 }
 
 fn within_limits(sh: Shape, i: usize) -> bool
@@ -63,14 +76,11 @@ fn lies_in(len: usize, at: usize, ahead: usize, size: usize) -> bool
     size <= room - ahead
 }
 
-// The cell that the packet at a place names: 11 is asked of a, b and c.
-fn packet_from(pack: &[u8], sh: Shape, at: usize) -> PacketRead
-    requires { ⌜ (at + 3 ≤ length (now pack)) × (sh .l1 ≤ 255) × (sh .l2 ≤ 255) ⌝ }
-    ensures { λ r. ⌜ r ≡ packetFrom (now (pack .entry)) sh at ⌝ }
+// The cell that a, b and c name: 11 is asked of them.
+fn named(sh: Shape, a: usize, b: usize, c: usize, at: usize) -> PacketRead
+    requires { ⌜ (sh .l1 ≤ 255) × (sh .l2 ≤ 255) × (b < 256) × (c < 256) ⌝ }
+    ensures { λ r. ⌜ r ≡ namedBy sh a b c at ⌝ }
 {
-    let a = wide(pack[at]);
-    let b = wide(pack[at + 1]);
-    let c = wide(pack[at + 2]);
     if sh.l1 <= a {
         return PacketRead::Absent;
     }
@@ -80,5 +90,5 @@ fn packet_from(pack: &[u8], sh: Shape, at: usize) -> PacketRead
     if sh.l3 <= c {
         return PacketRead::Absent;
     }
-    PacketRead::Names(a + sh.l1 * (b + sh.l2 * c), at + 3)
+    PacketRead::Names(a + sh.l1 * (b + sh.l2 * c), at)
 }

@@ -1,6 +1,8 @@
 // Writing an air pack of every cell of a cube, and the data string of a file: each part from the byte where the one before ended.
 use crate::PackSize;
 use crate::Section;
+use crate::air::put_head;
+use crate::air::write_coordinates;
 use answer::Answer;
 use answer::Fault;
 use answer::Refusal;
@@ -15,8 +17,8 @@ ghost use Rattle.span.specs.Decision.{Decides};
 ghost use Rattle.span.specs.Span.{Put};
 ghost use Rattle.shape.specs.Shapes.{Valid, cells};
 ghost use Rattle.pack.specs.Packs.{wordBytes, shapeBytes, packetBytes, packets, packetOf, everyPacket, airPack, packSize};
-ghost use Rattle.pack.specs.Writing.{sizeChecked, sizeValue, airChecked, AirOutcome, DataOutcome};
-ghost use Rattle.pack.specs.Inner.Writing.{Laid, coordinates};
+ghost use Rattle.pack.specs.Writing.{sizeChecked, sizeValue, airChecked, AirOutcome, DataOutcome, Laid};
+ghost use Rattle.pack.specs.Inner.Writing.{coordinates};
 
 // The bytes of the pack that holds every cell.
 pub fn pack_bytes(sh: Shape) -> PackSize
@@ -76,12 +78,13 @@ fn slices_fit(sh: Shape, bytes: usize, output: usize) -> Answer
     }
 }
 
-fn size_of(cells: usize, w: usize) -> usize
-    requires { ⌜ (cells ≤ 16581375) × (w ≤ 1024) ⌝ }
-    ensures { λ r. ⌜ r ≡ 17 + cells * (3 + w) ⌝ }
+// The bytes of an air pack with so many packets of w bytes.
+pub(crate) fn size_of(packets: usize, w: usize) -> usize
+    requires { ⌜ (packets < 4294967296) × (w ≤ 1024) ⌝ }
+    ensures { λ r. ⌜ r ≡ 17 + packets * (3 + w) ⌝ }
 {
     let packet = 3 + w;
-    17 + cells * packet
+    17 + packets * packet
 }
 
 // The three sections.
@@ -90,16 +93,12 @@ fn write_sections(cube: &[u8], out: &mut [u8], sh: Shape)
     ensures { λ _. ⌜ now (out .exit) ≡ airPack sh (everyPacket sh (now (cube .entry))) ⌝ }
 {
     let count = sh.l1 * sh.l2 * sh.l3;
-    let start = Cursor { at: 0 };
-    let body = put_count(start, out, 5);
-    let second = put_shape(out, body, sh);
-    let third = put_count(second, out, 0);
-    let first = put_count(third, out, count);
+    let first = put_head(out, sh, count);
     put_packets(cube, out, first, sh, count);
 }
 
 // A count, four bytes, low first.
-fn put_count(c: Cursor, out: &mut [u8], n: usize) -> Cursor
+pub(crate) fn put_count(c: Cursor, out: &mut [u8], n: usize) -> Cursor
     requires { ⌜ c .at + 4 ≤ length (now out) ⌝ }
     ensures { λ r. ⌜ Laid (now (out .entry)) c (wordBytes n) (now (out .exit)) r ⌝ }
 {
@@ -122,7 +121,7 @@ fn put_bytes(c: Cursor, out: &mut [u8], src: &[u8], from: usize, n: usize) -> Cu
 }
 
 // The five bytes of section 1.
-fn put_shape(out: &mut [u8], c: Cursor, sh: Shape) -> Cursor
+pub(crate) fn put_shape(out: &mut [u8], c: Cursor, sh: Shape) -> Cursor
     requires { ⌜ Valid sh × (c .at + 5 ≤ length (now out)) ⌝ }
     ensures { λ r. ⌜ Laid (now (out .entry)) c (shapeBytes sh) (now (out .exit)) r ⌝ }
 {
@@ -162,13 +161,15 @@ fn put_coordinates(out: &mut [u8], c: Cursor, sh: Shape, n: usize) -> Cursor
     requires { ⌜ Valid sh × (n < cells sh) × (c .at + 3 ≤ length (now out)) ⌝ }
     ensures { λ r. ⌜ Laid (now (out .entry)) c (coordinates sh n) (now (out .exit)) r ⌝ }
 {
-    let at = c.at;
     let l1 = sh.l1;
     let l2 = sh.l2;
-    out[at] = (n % l1 % 256) as u8;
-    out[at + 1] = (n / l1 % l2 % 256) as u8;
-    out[at + 2] = (n / (l1 * l2) % 256) as u8;
-    Cursor { at: at + 3 }
+    write_coordinates(
+        out,
+        c,
+        (n % l1 % 256) as u8,
+        (n / l1 % l2 % 256) as u8,
+        (n / (l1 * l2) % 256) as u8,
+    )
 }
 
 // Whether the n bytes of a file lie in a pack, and fit `room` behind their length. The differences avoid sums that could wrap.

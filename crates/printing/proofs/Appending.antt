@@ -2,7 +2,7 @@
 use mathlib.Core.Path.{_≡_, refl, sym, ap, _∙_}
 use mathlib.Core.List.{List, [], _∷_, _++_, append-assoc, append-nil}
 use Prim.Native.Nat.{ℕ, zero, suc, _+_, _-_, _≤_, _<_, min}
-use native.Mathlib.Nat.{zero-min, min-zero, suc-min-suc, min-le-left, min-le-right, le-min}
+use native.Mathlib.Nat.{zero-min, min-zero, suc-min-suc, min-le-left, min-le-right, le-min, min-eq-right}
 use native.Mathlib.Numerals.{add-one}
 use native.Mathlib.Omega.{arith}
 use lib.ListN.{length, getD, set, take, drop, length-append, length-take}
@@ -99,6 +99,13 @@ module _ (b : List ℕ) (at : ℕ) (t m : List ℕ) (e : ℕ) (u a : List ℕ) (
 
 -- ---- a text that fits
 
+-- where a text that fits ends
+pub append-end : (b : List ℕ) (at : ℕ) (t a : List ℕ) (e : ℕ) → at + length t ≤ length b → Appended b at t a e → e ≡ at + length t
+append-end b at t a e h p =
+    let l : length (take at b ++ t) ≡ at + length t = omega (arith, length-append (take at b) t, length-take-le at b (omega arith)) in
+    let fits : at + length t ≤ length b = h in
+    end-length b at t a e p ∙ ap (min (length b)) l ∙ min-eq-right fits
+
 pub append-nothing : (b : List ℕ) (at : ℕ) → at ≤ length b → Appended b at [] b at
 append-nothing b at h =
     record {
@@ -117,3 +124,9 @@ append-whole b t a e h p =
     let s = p .size in
     let l : e ≤ length a = omega arith in
     ((l, sym (length-take-le e a l)), p .written ∙ take-all (length b) t h)
+
+-- a text as long as the buffer is all of it
+pub append-all : (b t a : List ℕ) (e : ℕ) → length b ≡ length t → Appended b 0 t a e → a ≡ t
+append-all b t a e same p =
+    let end = append-end b 0 t a e (omega arith) p in
+    sym (take-all e a (omega (arith, p .size))) ∙ append-whole b t a e (omega arith) p .1

@@ -9,7 +9,7 @@ use lib.Dec.{ltb}
 use lib.ListN.{length, length-append}
 use borrow.Author.Tests.{lt-ltb, le-ltb, ltb-true, ltb-false}
 use Rattle.io.specs.Digits.{digits, Fewest}
-use Rattle.printing.specs.Text.{ascii, decimalIn, decimal, hexDigit, numbered, triple, numberLine, refusedLine}
+use Rattle.printing.specs.Text.{ascii, decimalIn, decimal, hexDigit, numbered, triple, numberLine, shapeLine, refusedLine}
 
 pub hexDigit-low : (d : ℕ) → d < 10 → 48 + d ≡ hexDigit d
 unfolding hexDigit
@@ -85,6 +85,13 @@ length-triple label a b c =
 pub length-numberLine : (label : List ℕ) (n : ℕ) → length (numberLine label n) ≤ length label + 21
 unfolding numberLine
 length-numberLine label n = omega (arith, length-append (numbered label n) (ascii "\n"), length-numbered label n)
+
+pub length-shapeLine : (l1 l2 l3 w : ℕ) → length (shapeLine l1 l2 l3 w) ≤ 90
+unfolding shapeLine
+length-shapeLine l1 l2 l3 w =
+    let lengths = triple (ascii "shape ") l1 l2 l3 in
+    omega
+    (arith, length-append lengths (numberLine (ascii " ") w), length-triple (ascii "shape ") l1 l2 l3, length-numberLine (ascii " ") w)
 
 pub length-refusedLine : (n : ℕ) → length (refusedLine n) ≤ 29
 unfolding refusedLine

@@ -40,6 +40,10 @@ triple label a b c = numbered label a ++ (numbered (ascii " ") b ++ numbered (as
 unfoldable pub numberLine : List ℕ → ℕ → List ℕ
 numberLine label n = numbered label n ++ ascii "\n"
 
+-- `shape L1 L2 L3 W`
+unfoldable pub shapeLine : ℕ → ℕ → ℕ → ℕ → List ℕ
+shapeLine l1 l2 l3 w = triple (ascii "shape ") l1 l2 l3 ++ numberLine (ascii " ") w
+
 -- "A refusal prints `refused n`"
 unfoldable pub refusedLine : ℕ → List ℕ
 refusedLine n = numberLine (ascii "refused ") n

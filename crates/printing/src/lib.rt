@@ -1,7 +1,7 @@
 // What the programs print: characters, decimal numbers and hexadecimal bytes, appended to a lent buffer.
 ghost use mathlib.Core.Path.{_≡_};
 ghost use Prim.Native.Nat.{_≤_, min};
-ghost use Rattle.printing.specs.Text.{decimal, hexByte, numbered, triple, numberLine, refusedLine};
+ghost use Rattle.printing.specs.Text.{decimal, hexByte, numbered, triple, numberLine, shapeLine, refusedLine};
 ghost use Rattle.printing.specs.Append.{Appended};
 
 // The bytes that an input, a cube and a written pack may have in the programs.
@@ -34,10 +34,16 @@ fn append_decimal(out: &mut [u8], at: usize, n: u64) -> usize
 }
 
 // The two lower-case hexadecimal digits of a byte.
+pub fn hex_digits(b: u8) -> [u8; 2]
+    ensures { λ r. ⌜ r ≡ hexByte b ⌝ }
+{
+    [hex_digit(b / 16), hex_digit(b % 16)]
+}
+
 pub fn append_hex(out: &mut [u8], at: usize, b: u8) -> usize
     ensures { λ r. ⌜ Appended (now (out .entry)) at (hexByte b) (now (out .exit)) r ⌝ }
 {
-    let pair = [hex_digit(b / 16), hex_digit(b % 16)];
+    let pair = hex_digits(b);
     append(out, at, &pair)
 }
 
@@ -64,6 +70,14 @@ pub fn append_line(out: &mut [u8], at: usize, label: &[u8], n: u64) -> usize
 {
     let behind = append_numbered(out, at, label, n);
     append(out, behind, b"\n")
+}
+
+// The line of a shape: its three lengths and W.
+pub fn append_shape(out: &mut [u8], at: usize, l1: u64, l2: u64, l3: u64, w: u64) -> usize
+    ensures { λ r. ⌜ Appended (now (out .entry)) at (shapeLine l1 l2 l3 w) (now (out .exit)) r ⌝ }
+{
+    let lengths = append_triple(out, at, b"shape ", l1, l2, l3);
+    append_line(out, lengths, b" ", w)
 }
 
 // The line of a refusal by its number.

@@ -1,9 +1,9 @@
 -- Document 01, "Programs": the output that it gives in whole is that of the definition.
 use mathlib.Core.Path.{_≡_, refl}
 use mathlib.Core.List.{[], _∷_}
-use Rattle.printing.specs.Text.{ascii, decimalIn, decimal, hexDigit, hexByte, numbered, triple, numberLine}
+use Rattle.printing.specs.Text.{ascii, decimalIn, decimal, hexDigit, hexByte, numbered, triple, numberLine, shapeLine}
 use Rattle.receive.specs.declared.receiving.Outcome.the-variants.{Came}
-use Rattle.receive.specs.Printed.{shapeLine, headLines, openingLines, separator, byteText, joined, texts, textOf, printed}
+use Rattle.receive.specs.Printed.{headLines, openingLines, separator, byteText, joined, texts, textOf, printed}
 
 -- "For shape 3, 3, 3, W 5, file 08h, without packet (0,0,0)"
 pub example :

@@ -6,12 +6,12 @@ use native.Mathlib.Omega.{arith}
 use lib.Dec.{eqb}
 use lib.ListN.{length, getD, length-append}
 use Rattle.shape.specs.declared.Shape.{Shape}
-use Rattle.printing.specs.Text.{ascii, hexByte, numberLine, triple}
-use Rattle.printing.proofs.Numerals.{length-numberLine, length-triple}
+use Rattle.printing.specs.Text.{ascii, hexByte, numberLine, triple, shapeLine}
+use Rattle.printing.proofs.Numerals.{length-numberLine, length-triple, length-shapeLine}
 use Rattle.receive.specs.declared.receiving.Report.{Report}
 use Rattle.receive.specs.declared.receiving.Outcome.{Outcome}
 use Rattle.receive.specs.declared.receiving.Outcome.the-variants.{TooBig, Refused, Came}
-use Rattle.receive.specs.Printed.{shapeLine, headLines, openingLines, separator, byteText, holeLine, holeText, joined, textOf}
+use Rattle.receive.specs.Printed.{headLines, openingLines, separator, byteText, holeLine, holeText, joined, textOf}
 
 length-pick : (t : Bool) (x y : List ℕ) (n : ℕ) → length x ≤ n → length y ≤ n → length (cond t x y) ≤ n
 length-pick true x y n h k = h
@@ -19,16 +19,10 @@ length-pick false x y n h k = k
 
 -- ---- the first lines
 
-length-shapeLine : (sh : Shape) → length (shapeLine sh) ≤ 90
-unfolding shapeLine
-length-shapeLine sh =
-    let first = triple (ascii "shape ") (sh .l1) (sh .l2) (sh .l3) in
-    omega
-    (arith, length-append first (numberLine (ascii " ") (sh .w)), length-triple (ascii "shape ") (sh .l1) (sh .l2) (sh .l3), length-numberLine (ascii " ") (sh .w))
-
 length-headLines : (r : Report) → length (headLines r) ≤ 174
 unfolding headLines
 length-headLines r =
+    let shape = shapeLine (r .shape .l1) (r .shape .l2) (r .shape .l3) (r .shape .w) in
     let packets = numberLine (ascii "packets ") (r .packets) in
     let repeats = numberLine (ascii "repeats ") (r .repeats) in
     let left = numberLine (ascii "left ") (r .left) in
@@ -36,7 +30,7 @@ length-headLines r =
     let b = length-numberLine (ascii "repeats ") (r .repeats) in
     let c = length-numberLine (ascii "left ") (r .left) in
     omega
-    (arith, length-append (shapeLine (r .shape)) (packets ++ (repeats ++ left)), length-append packets (repeats ++ left), length-append repeats left, length-shapeLine (r .shape))
+    (arith, length-append shape (packets ++ (repeats ++ left)), length-append packets (repeats ++ left), length-append repeats left, length-shapeLine (r .shape .l1) (r .shape .l2) (r .shape .l3) (r .shape .w))
 
 pub length-openingLines : (r : Report) → length (openingLines (Came r)) ≤ 200
 unfolding openingLines

@@ -6,19 +6,15 @@ use lib.Dec.{eqb}
 use lib.ListN.{getD}
 use Rattle.shape.specs.declared.Shape.{Shape}
 use Rattle.shape.specs.Shapes.{cells}
-use Rattle.printing.specs.Text.{ascii, hexByte, numberLine, triple, refusedLine, tooBigLine}
+use Rattle.printing.specs.Text.{ascii, hexByte, numberLine, triple, shapeLine, refusedLine, tooBigLine}
 use Rattle.receive.specs.declared.receiving.Report.{Report}
 use Rattle.receive.specs.declared.receiving.Outcome.{Outcome}
 use Rattle.receive.specs.declared.receiving.Outcome.the-variants.{TooBig, Refused, Came}
 
--- `shape L1 L2 L3 W`
-unfoldable pub shapeLine : Shape → List ℕ
-shapeLine sh = triple (ascii "shape ") (sh .l1) (sh .l2) (sh .l3) ++ numberLine (ascii " ") (sh .w)
-
 -- "Receive prints shape, packets, repeats, places left"
 unfoldable pub headLines : Report → List ℕ
 headLines r =
-    shapeLine (r .shape)
+    shapeLine (r .shape .l1) (r .shape .l2) (r .shape .l3) (r .shape .w)
     ++ (numberLine (ascii "packets ") (r .packets)
     ++ (numberLine (ascii "repeats ") (r .repeats) ++ numberLine (ascii "left ") (r .left)))
 

@@ -8,7 +8,7 @@ ghost use lib.ListN.{length, take};
 ghost use Rattle.shape.specs.Shapes.{Valid};
 ghost use Rattle.io.specs.Counts.{Counts};
 ghost use Rattle.printing.specs.Append.{Appended};
-ghost use Rattle.receive.specs.Printed.{shapeLine, holeLine, headLines, openingLines, byteText, holeText, joined, texts, textOf};
+ghost use Rattle.receive.specs.Printed.{holeLine, headLines, openingLines, byteText, holeText, joined, texts, textOf};
 ghost use Rattle.receive.specs.Pieces.{piece, pieces};
 ghost use Rattle.receive.specs.Inner.Pieces.{Fits};
 
@@ -122,24 +122,18 @@ fn append_report(out: &mut [u8], report: Report) -> usize
 fn append_head(out: &mut [u8], report: Report) -> usize
     ensures { λ r. ⌜ Appended (now (out .entry)) 0 (headLines report) (now (out .exit)) r ⌝ }
 {
-    let shape = append_shape(out, 0, report.shape);
-    let packets = printing::append_line(out, shape, b"packets ", report.packets as u64);
-    let repeats = printing::append_line(out, packets, b"repeats ", report.repeats as u64);
-    printing::append_line(out, repeats, b"left ", report.left as u64)
-}
-
-fn append_shape(out: &mut [u8], at: usize, sh: Shape) -> usize
-    ensures { λ r. ⌜ Appended (now (out .entry)) at (shapeLine sh) (now (out .exit)) r ⌝ }
-{
-    let lengths = printing::append_triple(
+    let sh = report.shape;
+    let shape = printing::append_shape(
         out,
-        at,
-        b"shape ",
+        0,
         sh.l1 as u64,
         sh.l2 as u64,
         sh.l3 as u64,
+        sh.w as u64,
     );
-    printing::append_line(out, lengths, b" ", sh.w as u64)
+    let packets = printing::append_line(out, shape, b"packets ", report.packets as u64);
+    let repeats = printing::append_line(out, packets, b"repeats ", report.repeats as u64);
+    printing::append_line(out, repeats, b"left ", report.left as u64)
 }
 
 // Byte i of a file of n bytes, and what stands behind it.

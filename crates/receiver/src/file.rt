@@ -1,5 +1,6 @@
 // The file in a whole cube: its length, the zeros behind it, and its bytes.
 use cube::DataCheck;
+use cursor::wide;
 use shape::Shape;
 ghost use mathlib.Core.Path.{_≡_};
 ghost use Prim.Native.Nat.{ℕ, _-_, _*_, _≤_, _<_};
@@ -52,10 +53,4 @@ fn zero_behind(cube: &[u8], sh: Shape, from: usize) -> bool
         DataCheck::Zero(zero) => zero,
         DataCheck::Refused(_) => false,
     }
-}
-
-fn wide(b: u8) -> usize
-    ensures { λ r. ⌜ (r ≡ b) × (r < 256) ⌝ }
-{
-    b as usize
 }

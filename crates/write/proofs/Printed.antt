@@ -17,7 +17,7 @@ use Rattle.shape.specs.Shapes.{cells, sizes}
 use Rattle.shape.proofs.Valid.{both-true}
 use Rattle.pack.specs.declared.Header.{Header}
 use Rattle.pack.specs.declared.Section.{Section}
-use Rattle.pack.specs.Packs.{packSize}
+use Rattle.pack.specs.Packs.{airSize, packSize}
 use Rattle.pack.specs.Reading.{jobOf}
 use Rattle.pack.proofs.Sound.{job-sound}
 use Rattle.writer.specs.Write.{writeChecked, WriteOutcome, write-refused, write-done}
@@ -58,7 +58,7 @@ module _ (p out after : List ℕ) (end : ℕ) (size : length out ≡ 65536) wher
 
 -- the cube is smaller than the pack
 cube-le-pack : (sh : Shape) → sh .w * cells sh ≤ packSize sh
-unfolding packSize
+unfolding packSize airSize
 cube-le-pack sh =
     let m : cells sh * sh .w ≤ cells sh * (3 + sh .w) = mul-le-mul-left (cells sh) (omega arith) in
     omega (arith, mul-comm (sh .w) (cells sh))

@@ -28,7 +28,7 @@ use Rattle.cube.proofs.Checks.{done-checked}
 use Rattle.cube.proofs.Outcomes.{encode-one}
 use Rattle.pack.specs.declared.Header.{Header}
 use Rattle.pack.specs.declared.Section.{Section}
-use Rattle.pack.specs.Packs.{packSize, padded, dataString}
+use Rattle.pack.specs.Packs.{airSize, packSize, padded, dataString}
 use Rattle.pack.specs.Reading.{jobOf, fileOf}
 use Rattle.pack.specs.Writing.{DataOutcome}
 use Rattle.pack.proofs.Sound.{JobSound}
@@ -40,7 +40,7 @@ use Rattle.writer.specs.Write.{writeChecked, Written, WriteOutcome, writ
 
 -- the data string fits in the output's first bytes
 pub capacity-le-packSize : (sh : Shape) → capacity sh ≤ packSize sh
-unfolding capacity packSize cells
+unfolding capacity packSize airSize cells
 capacity-le-packSize sh =
     let d : (sh .l1 - 2) * (sh .l2 - 2) * (sh .l3 - 2) ≤ sh .l1 * sh .l2 * sh .l3
     = mul-le-mul (mul-le-mul (sub-le (sh .l1) 2) (sub-le (sh .l2) 2)) (sub-le (sh .l3) 2) in

@@ -10,6 +10,9 @@ enum-told c = search needs
 enum-known-f : tie.Need-enum-known-f
 enum-known-f c = search needs
 
+enum-known-f-2 : tie.Need-enum-known-f-2
+enum-known-f-2 c = search needs
+
 returns : tie.Need-returns
 unfolding placeOf refusal
 returns c = rw (c .enum-told .given .1)
@@ -18,5 +21,9 @@ returns-2 : tie.Need-returns-2
 unfolding placeOf refusal
 returns-2 c = rw (c .before .f .given .1)
 
+returns-3 : tie.Need-returns-3
+unfolding placeOf refusal
+returns-3 c = rw (c .before .f2 .given .1)
+
 pub place-spec : {M : Type 1} → statement M
-place-spec = tie.close (tie.spec enum-told enum-known-f returns returns-2)
+place-spec = tie.close (tie.spec enum-told enum-known-f enum-known-f-2 returns returns-2 returns-3)

@@ -9,14 +9,12 @@ use Rattle.shape.specs.Shapes.{both, cell}
 use Rattle.pack.specs.declared.PacketRead.{PacketRead}
 use Rattle.pack.specs.declared.PacketRead.the-variants.{Names, Absent}
 
--- the limits of `Named` on a header and an index
+-- the limits of `Stands` on a header and an index
 unfoldable pub withinLimits : Shape → ℕ → Bool
 withinLimits sh i =
     both (leb (sh .l1) 255) (both (leb (sh .l2) 255) (both (leb (sh .w) 1024) (ltb i 4294967296)))
 
--- the packet that begins at a place
-unfoldable pub packetFrom : List ℕ → Shape → ℕ → PacketRead
-packetFrom p sh at =
-    cond (both (ltb (getD p at 0) (sh .l1)) (both (ltb (getD p (at + 1) 0) (sh .l2)) (ltb (getD p (at + 2) 0) (sh .l3))))
-    (Names (cell sh (getD p at 0) (getD p (at + 1) 0) (getD p (at + 2) 0)) (at + 3))
-    Absent
+-- check 11 of a, b and c: the cell that they name, and where its bytes begin
+unfoldable pub namedBy : Shape → ℕ → ℕ → ℕ → ℕ → PacketRead
+namedBy sh a b c at =
+    cond (both (ltb a (sh .l1)) (both (ltb b (sh .l2)) (ltb c (sh .l3)))) (Names (cell sh a b c) at) Absent

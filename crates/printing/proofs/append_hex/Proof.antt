@@ -1,15 +1,11 @@
 -- `printing::append_hex` meets its contract. Assumes nothing.
 use borrow.Author.Needs.{needs}
 use mathlib.Core.Path.{sym}
-use Rattle.printing.specs.Text.{hexByte}
 use Rattle.printing.proofs.append_hex.Statement.{statement}
 use Rattle.printing.proofs.append_hex.Tie as tie
 
-hex-digit-requires : tie.Need-hex-digit-requires
-hex-digit-requires c κs = search needs
-
-hex-digit-requires-2 : tie.Need-hex-digit-requires-2
-hex-digit-requires-2 c κs = search needs
+hex-digits-requires : tie.Need-hex-digits-requires
+hex-digits-requires c κs = search needs
 
 slice-aggregate-append : tie.Need-slice-aggregate-append
 slice-aggregate-append c = search needs
@@ -21,16 +17,9 @@ same-length : tie.Need-same-length
 same-length c = search needs
 
 returns : tie.Need-returns
-unfolding hexByte
-returns c = rw (sym (c .before .before .before .before .before .before .hex-digit .ensures), sym (c .before .before .before .before .before .hex-digit2 .ensures)) (c .before .before .append .ensures)
+returns c = rw (sym (c .before .before .before .before .before .hex-digits .ensures)) (c .before .before .append .ensures)
 
 pub append-hex-spec : {M : Type 1} → statement M
 append-hex-spec =
     tie.close
-    (tie.spec
-    hex-digit-requires
-    hex-digit-requires-2
-    slice-aggregate-append
-    append-requires
-    same-length
-    returns)
+    (tie.spec hex-digits-requires slice-aggregate-append append-requires same-length returns)

@@ -13,7 +13,7 @@ place-lt c =
     let k = c .before .before .before in
     omega (arith, c .place .ensures, refused-beside _ _ (k .ending2 .given .1), k .before .before .pre)
 
-number-le : (c : tie.After-place) → c .before .number .result ≤ 16
+number-le : (c : tie.After-place) → c .before .number .result ≤ 17
 number-le c = rw (c .before .number .ensures) (tabled-number (refusal-tabled (c .before .before .before .ending2 .given .0 .0)))
 
 enum-told : tie.Need-enum-told

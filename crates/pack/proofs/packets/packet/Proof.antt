@@ -1,55 +1,54 @@
 -- `pack::packets::packet` meets its contract. Assumes nothing.
-use mathlib.Core.Path.{sym, _∙_}
-use native.Mathlib.Omega.{arith}
-use borrow.Author.Tests.{not-true, not-false}
-use Rattle.pack.proofs.Naming.{limits-parts, ahead-le, beyond-limits, beyond-pack, packet-outcome}
+use mathlib.Core.Path.{sym}
+use Rattle.pack.proofs.Naming.{parts-standing, parts-absent, parts-named}
 use borrow.Author.Needs.{needs}
 use Rattle.pack.proofs.packets.packet.Statement.{statement}
 use Rattle.pack.proofs.packets.packet.Tie as tie
 
-within-limits-requires : tie.Need-within-limits-requires
-within-limits-requires c κs = search needs
+packet-parts-requires : tie.Need-packet-parts-requires
+packet-parts-requires c κs = search needs
+
+enum-known-parts : tie.Need-enum-known-parts
+enum-known-parts c = search needs
+
+enum-told : tie.Need-enum-told
+enum-told c = search needs
 
 returns : tie.Need-returns
-returns c = beyond-limits _ _ _ _ (sym (c .before .within-limits .ensures) ∙ not-true _ (c .if1 .taken))
+returns c = parts-absent _ _ _ _ _ (c .before .before .packet-parts .ensures) (c .enum-told .given .1)
 
-add-size : tie.Need-add-size
-add-size c = omega (arith, limits-parts _ _ (sym (c .before .before .within-limits .ensures) ∙ not-false _ (c .before .if1 .left)) .w-high)
+wide-requires : tie.Need-wide-requires
+wide-requires c κs = search needs
 
-mul-ahead : tie.Need-mul-ahead
-mul-ahead c = omega (arith, ahead-le _ _ (limits-parts _ _ (sym (c .before .before .within-limits .ensures) ∙ not-false _ (c .before .if1 .left))))
+wide-requires-2 : tie.Need-wide-requires-2
+wide-requires-2 c κs = search needs
 
-lies-in-requires : tie.Need-lies-in-requires
-lies-in-requires c κs = search needs
+wide-requires-3 : tie.Need-wide-requires-3
+wide-requires-3 c κs = search needs
+
+named-requires : tie.Need-named-requires
+named-requires c κs =
+    let read = c .before .before .before in
+    let n = parts-standing _ _ _ _ _ _ _ _ _ (read .before .before .before .packet-parts .ensures) (read .before .parts .given .1) in
+    (n .l1-high, n .l2-high, c .before .wide2 .ensures .1, c .wide3 .ensures .1)
 
 returns-2 : tie.Need-returns-2
-returns-2 c = beyond-pack _ _ _ _ (c .before .lies-in .ensures .1 (not-true _ (c .if2 .taken)))
-
-add-packet-from : tie.Need-add-packet-from
-add-packet-from c = omega (arith, c .before .before .lies-in .ensures .0 (not-false _ (c .before .if2 .left)))
-
-packet-from-requires : tie.Need-packet-from-requires
-packet-from-requires c κs =
-    let tested = c .before .before in
-    let l = limits-parts _ _ (sym (tested .before .before .before .within-limits .ensures) ∙ not-false _ (tested .before .before .if1 .left)) in
-    (omega (arith, tested .lies-in .ensures .0 (not-false _ (c .before .if2 .left))), l .l1-high, l .l2-high)
-
-returns-3 : tie.Need-returns-3
-returns-3 c =
-    let tested = c .before .before .before in
-    packet-outcome _ _ _ _ _ (sym (tested .before .before .before .within-limits .ensures) ∙ not-false _ (tested .before .before .if1 .left))
-    (tested .lies-in .ensures .0 (not-false _ (c .before .before .if2 .left))) (c .packet-from .ensures)
+returns-2 c =
+    let three = c .before in
+    let read = three .before .before .before in
+    parts-named _ _ _ _ _ _ _ _ _ _ (read .before .before .before .packet-parts .ensures) (read .before .parts .given .1)
+    (rw (sym (three .before .before .wide .ensures .0), sym (three .before .wide2 .ensures .0), sym (three .wide3 .ensures .0)) (c .named .ensures))
 
 pub packet-spec : {M : Type 1} → statement M
 packet-spec =
     tie.close
     (tie.spec
-    within-limits-requires
+    packet-parts-requires
+    enum-known-parts
+    enum-told
     returns
-    add-size
-    mul-ahead
-    lies-in-requires
-    returns-2
-    add-packet-from
-    packet-from-requires
-    returns-3)
+    wide-requires
+    wide-requires-2
+    wide-requires-3
+    named-requires
+    returns-2)

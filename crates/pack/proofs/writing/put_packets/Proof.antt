@@ -2,7 +2,7 @@
 use Prim.Native.Nat.{_-_, _≤_}
 use native.Mathlib.Omega.{arith}
 use Rattle.pack.specs.Packs.{packets, firstPackets}
-use Rattle.pack.specs.Inner.Writing.{Laid}
+use Rattle.pack.specs.Writing.{Laid}
 use Rattle.pack.proofs.Laying.{packet-room, packets-none, packets-more, packets-all}
 use Rattle.pack.proofs.writing.put_packets.Statement.{statement}
 use Rattle.pack.proofs.writing.put_packets.Tie as tie

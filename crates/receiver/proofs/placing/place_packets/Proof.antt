@@ -68,7 +68,7 @@ add-repeats c =
     let s = l .before .before .before .before .before in
     let more = arrived-agrees _ _ _ _ _ _ _ _ _ (m .place-packet .ensures) (c .before .arrival .given .1) in
     let next = repeats-next _ _ _ _ (l .before .loop .inv .1) (more .2) in
-    let few = s .pre .1 (l .before .loop .i) (l .loop-test .taken) .index in
+    let few = s .pre .1 (l .before .loop .i) (l .loop-test .taken) .stands .index in
     omega (arith, next, few, repeats-le (source (s .args .air .now) (s .args .h) (s .args .s)) (l .before .loop .i + 1))
 
 add-i : tie.Need-add-i Inv-loop μ-loop

@@ -1,9 +1,9 @@
--- `receive::pieces::append_shape` meets its contract. Assumes nothing.
+-- `printing::append_shape` meets its contract. Assumes nothing.
 use borrow.Author.Needs.{needs}
-use Rattle.receive.specs.Printed.{shapeLine}
+use Rattle.printing.specs.Text.{shapeLine}
 use Rattle.printing.proofs.Appending.{append-append}
-use Rattle.receive.proofs.pieces.append_shape.Statement.{statement}
-use Rattle.receive.proofs.pieces.append_shape.Tie as tie
+use Rattle.printing.proofs.append_shape.Statement.{statement}
+use Rattle.printing.proofs.append_shape.Tie as tie
 
 slice-aggregate-append-triple : tie.Need-slice-aggregate-append-triple
 slice-aggregate-append-triple c = search needs
