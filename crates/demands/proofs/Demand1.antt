@@ -4,6 +4,7 @@ use mathlib.Core.Bool.{Bool, false, false≢true}
 use mathlib.Core.List.{List}
 use Prim.Native.Nat.{ℕ}
 use native.Mathlib.Omega.{arith}
+use lib.ListN.{length}
 use Rattle.answer.specs.Values.{Value, refused, Checked, passes, fails, checked}
 use Rattle.field.specs.Field.{reduction}
 use Rattle.shape.specs.declared.Shape.{Shape}
@@ -12,15 +13,17 @@ use Rattle.cube.specs.Calls.{EncodeOutcome, encode-refused, encode-done, Extrac
 use Rattle.fill.specs.Fill.{CellsLeft, FillOutcome, fill-refused, fill-done, fill-contradiction}
 use Rattle.mend.specs.Mend.{MendOutcome, mend-refused, mend-done, mend-uncorrected, AxisOutcome, axis-refused, axis-done}
 use Rattle.pack.specs.Reading.{headerOf, jobOf, airOf}
-use Rattle.pack.specs.Writing.{sizeChecked, AirOutcome, air-kept, air-written}
+use Rattle.cursor.specs.declared.Cursor.{Cursor}
+use Rattle.pack.specs.Writing.{sizeChecked, airSizeChecked, StartOutcome, start-refused, started, AirOutcome, air-kept, air-written}
 use Rattle.writer.specs.Write.{WriteOutcome, write-refused, write-done}
 use Rattle.receiver.specs.declared.Counts.{Counts}
 use Rattle.receiver.specs.Gathering.{Reception, unfit, index, conflict, contradiction, some-left, none-left}
 use Rattle.receiver.specs.Opening.{bad}
 use Rattle.receiver.specs.Receive.{Memory, ReceiveOutcome, unopened, bad-file, opened}
-use Rattle.demands.specs.Ends.{isOneOf, OneOf, ofPacket, keeping, Ends, in-result, in-refusal, in-packet, Keeps, OnlyReads}
-use Rattle.demands.specs.Demand1.{shapeNumbers, cubeNumbers, fillNumbers, mendNumbers, headerNumbers, packNumbers, writerNumbers, receiverNumbers, FillLeaves, MendLeaves, ReceiveLeaves, Demand1}
-use Rattle.demands.proofs.Numbers.{Plain, shape-number, size-number, line-number, slices-number, cube-number, write-air-number, axis-number, read-number, fill-number, mend-number, header-number, job-number, air-number, write-number, receive-number}
+use Rattle.text.specs.Text.{textSizeChecked, WriteTextOutcome, ReadTextOutcome, PackSizeOutcome, size-broken, size-checked}
+use Rattle.demands.specs.Ends.{isOneOf, OneOf, placed, keeping, Ends, in-result, in-refusal, in-place, Keeps, OnlyReads}
+use Rattle.demands.specs.Demand1.{shapeNumbers, cubeNumbers, fillNumbers, mendNumbers, headerNumbers, packNumbers, writerNumbers, receiverNumbers, airNumbers, startNumbers, writeTextNumbers, readTextNumbers, textPackNumbers, FillLeaves, MendLeaves, ReceiveLeaves, Demand1}
+use Rattle.demands.proofs.Numbers.{Plain, shape-number, size-number, line-number, slices-number, cube-number, write-air-number, axis-number, read-number, fill-number, mend-number, header-number, job-number, air-number, write-number, receive-number, air-size-number, text-pack-number, start-number, read-text-number, text-size-number, write-text-number}
 
 -- ---- numbers
 
@@ -75,7 +78,7 @@ axis-ends sh axis before after _ (axis-done e k) = in-result tt
 
 fill-ends : (sh : Shape) (xs fs xs′ fs′ : List ℕ) (value : Value CellsLeft) → FillOutcome reduction sh xs fs xs′ fs′ value
     → Ends fillNumbers (FillLeaves sh xs fs xs′ fs′) value
-unfolding OneOf isOneOf ofPacket keeping fillNumbers
+unfolding OneOf isOneOf placed keeping fillNumbers
 fill-ends sh xs fs xs′ fs′ _ (fill-refused n e x y) =
     let k = fill-number n sh _ fs e in
     refuses k (record { kept = λ _. (x, y); contradiction = λ z. keeps-no n 13 (k .keeps) refl z })
@@ -85,7 +88,7 @@ fill-ends sh xs fs xs′ fs′ _ (fill-contradiction d K k none c e) =
 
 mend-ends : (sh : Shape) (xs fs before after : List ℕ) (value : Value Unit) → MendOutcome reduction sh xs fs before after value
     → Ends mendNumbers (MendLeaves before after) value
-unfolding OneOf isOneOf ofPacket keeping mendNumbers
+unfolding OneOf isOneOf placed keeping mendNumbers
 mend-ends sh xs fs before after _ (mend-refused n e k) =
     let h = mend-number n sh _ _ fs e in
     refuses h (record { kept = λ _. k; uncorrected = λ z. keeps-no n 16 (h .keeps) refl z })
@@ -108,7 +111,7 @@ write-ends p xs out xs′ out′ _ (write-done h s e w) = in-result tt
 module _ (p : List ℕ) (m m′ : Memory) where
   receive-ends : (value : Value Reception) (counts : Counts) → ReceiveOutcome reduction p m m′ value counts
       → Ends receiverNumbers (ReceiveLeaves p m m′ counts) value
-  unfolding OneOf isOneOf ofPacket keeping receiverNumbers
+  unfolding OneOf isOneOf placed keeping receiverNumbers
   receive-ends _ _ (unopened _ _ (unfit n e x y) same) =
       let k = receive-number n p m e in
       refuses k (record {
@@ -120,7 +123,7 @@ module _ (p : List ℕ) (m m′ : Memory) where
         no-counts = refl;
       })
   receive-ends _ _ (unopened _ _ (index h s e i l out before x y) same) =
-      in-packet 11 i refl refl (record {
+      in-place 11 i refl refl (record {
         kept = λ _. (x, y);
         conflict = λ z. absurd (omega arith);
         contradiction = λ z. absurd (omega arith);
@@ -129,7 +132,7 @@ module _ (p : List ℕ) (m m′ : Memory) where
         no-counts = refl;
       })
   receive-ends _ _ (unopened _ _ (conflict h s e ins i l c none x y) same) =
-      in-packet 12 i refl refl (record {
+      in-place 12 i refl refl (record {
         kept = λ z. absurd (false≢true z);
         conflict = λ _. (x, y);
         contradiction = λ z. absurd (omega arith);
@@ -159,6 +162,34 @@ module _ (p : List ℕ) (m m′ : Memory) where
       })
   receive-ends _ _ (opened h s k e g n o) = in-result _
 
+start-ends : (sh : Shape) (n : ℕ) (before after : List ℕ) (value : Value Cursor) → StartOutcome sh n before after value
+    → Ends startNumbers (Keeps before after) value
+start-ends sh n before after _ (start-refused m e k) = refuses (start-number m sh n _ e) k
+start-ends sh n before after _ (started c e l) = in-result c
+
+-- ---- texts
+
+write-text-ends : (p before after : List ℕ) (value : Value Unit) → WriteTextOutcome p before after value
+    → Ends writeTextNumbers (Keeps before after) value
+unfolding OneOf isOneOf placed writeTextNumbers
+write-text-ends p before after _ (WriteTextOutcome.write-refused n e k) = refuses (write-text-number n p _ e) k
+write-text-ends p before after _ (WriteTextOutcome.write-outside h s i e f l k) = in-place 11 i refl refl k
+write-text-ends p before after _ (WriteTextOutcome.write-done h s e f k) = in-result tt
+
+read-text-ends : (t before after : List ℕ) (value : Value Unit) → ReadTextOutcome t before after value
+    → Ends readTextNumbers (Keeps before after) value
+unfolding OneOf isOneOf placed readTextNumbers
+read-text-ends t before after _ (ReadTextOutcome.read-broken n b k) = in-place 17 n refl refl k
+read-text-ends t before after _ (ReadTextOutcome.read-refused sh ks n f x e k) = refuses (read-text-number n sh _ _ e) k
+read-text-ends t before after _ (ReadTextOutcome.read-outside sh ks i f x e o k) = in-place 11 i refl refl k
+read-text-ends t before after _ (ReadTextOutcome.read-done sh ks f x e a k) = in-result tt
+
+pack-size-ends : (t : List ℕ) (value : Value ℕ) → PackSizeOutcome t value → Ends textPackNumbers OnlyReads value
+unfolding OneOf isOneOf placed textPackNumbers
+pack-size-ends t _ (size-broken n b) = in-place 17 n refl refl tt
+pack-size-ends t _ (size-checked sh ks f x) =
+    checks-end textPackNumbers (airSizeChecked sh (length ks)) (λ n. text-pack-number n sh (length ks))
+
 pub demand1 : Demand1
 demand1 =
     record {
@@ -167,6 +198,10 @@ demand1 =
       read-header = λ p. checked-ends headerNumbers (headerOf p) (λ n. header-number n p);
       read-job = λ p. checked-ends packNumbers (jobOf p) (λ n. job-number n p);
       read-air = λ p. checked-ends packNumbers (airOf p) (λ n. air-number n p);
+      write-text = write-text-ends;
+      read-text = read-text-ends;
+      text-bytes = λ p. checked-ends packNumbers (textSizeChecked p) (λ n. text-size-number n p);
+      text-pack-bytes = pack-size-ends;
       encode = encode-ends;
       extract = extract-ends;
       read-data = read-ends;
@@ -176,7 +211,9 @@ demand1 =
       mend = mend-ends;
       mend-axis = axis-ends;
       write-air = air-ends;
+      start-air = start-ends;
       measure = λ sh. checked-ends shapeNumbers (shapeChecked sh) (λ n. shape-number n sh);
       pack-bytes = λ sh. checked-ends shapeNumbers (sizeChecked sh) (λ n. size-number n sh);
       axis-line = λ sh axis m. checked-ends shapeNumbers (lineOf sh axis m) (λ n. line-number n sh axis m);
+      air-bytes = λ sh k. checked-ends airNumbers (airSizeChecked sh k) (λ n. air-size-number n sh k);
     }

@@ -1,8 +1,9 @@
--- The numbers by which each call's checks fail: they are in its list, none is of a packet, and all of them change no lent byte.
+-- The numbers by which each call's checks fail: they are in its list, none names a place, and all of them change no lent byte.
 use mathlib.Core.Path.{_≡_, refl}
 use mathlib.Core.Bool.{Bool, true, false, not}
 use mathlib.Core.List.{List}
 use Prim.Native.Nat.{ℕ}
+use lib.ListN.{length}
 use borrow.Author.Tests.{not-true}
 use Rattle.answer.specs.Values.{Checked, passes, fails, check, andThen}
 use Rattle.answer.proofs.Values.{check-number, then-number, passes-number}
@@ -13,25 +14,26 @@ use Rattle.shape.proofs.Valid.{both-parts}
 use Rattle.cube.specs.Calls.{slicesChecked, cubeChecked, readChecked}
 use Rattle.fill.specs.Fill.{flagsChecked}
 use Rattle.mend.specs.Mend.{axisChecked, mendChecked, wholeChecked}
-use Rattle.pack.specs.Packs.{packSize}
+use Rattle.pack.specs.Packs.{airSize, packSize}
 use Rattle.pack.specs.Reading.{headerOf, jobOf, airOf}
-use Rattle.pack.specs.Writing.{sizeChecked, airChecked}
+use Rattle.pack.specs.Writing.{sizeChecked, airSizeChecked, startChecked, airChecked}
 use Rattle.pack.proofs.Numbers.{shape-fails, header-fails, job-fails, air-fails}
 use Rattle.writer.specs.Write.{writeChecked}
 use Rattle.receiver.specs.Receive.{Memory, receiveChecked}
-use Rattle.demands.specs.Demand1.{shapeNumbers, cubeNumbers, fillNumbers, mendNumbers, headerNumbers, packNumbers, writerNumbers, receiverNumbers}
+use Rattle.text.specs.Text.{textIn, textSizeChecked, writeTextChecked}
+use Rattle.demands.specs.Demand1.{shapeNumbers, cubeNumbers, fillNumbers, mendNumbers, headerNumbers, packNumbers, writerNumbers, receiverNumbers, airNumbers, startNumbers, writeTextNumbers, readTextNumbers, textPackNumbers}
 use Rattle.demands.specs.Demand2.{earlyNumbers}
-use Rattle.demands.specs.Ends.{isOneOf, OneOf, ofPacket, keeping}
+use Rattle.demands.specs.Ends.{isOneOf, OneOf, placed, keeping}
 
--- a number of a list that names no packet and changes no lent byte
+-- a number of a list that names no place and changes no lent byte
 pub record Plain (numbers : List ℕ) (n : ℕ) : Type 0 where
   pub listed : OneOf numbers n
-  pub of-call : isOneOf ofPacket n ≡ false
+  pub of-call : isOneOf placed n ≡ false
   pub keeps : OneOf keeping n
 
 -- the same as a test
 unfoldable isPlain : List ℕ → ℕ → Bool
-isPlain numbers n = both (isOneOf numbers n) (both (not (isOneOf ofPacket n)) (isOneOf keeping n))
+isPlain numbers n = both (isOneOf numbers n) (both (not (isOneOf placed n)) (isOneOf keeping n))
 
 abbrev Test : List ℕ → ℕ → Type 0
 Test numbers n = isPlain numbers n ≡ true
@@ -40,14 +42,14 @@ plain : (numbers : List ℕ) (n : ℕ) → Test numbers n → Plain numbers n
 unfolding isPlain OneOf
 plain numbers n e =
     let (a, bc) = both-parts (isOneOf numbers n) _ e in
-    let (b, c) = both-parts (not (isOneOf ofPacket n)) (isOneOf keeping n) bc in
+    let (b, c) = both-parts (not (isOneOf placed n)) (isOneOf keeping n) bc in
     record { listed = a; of-call = not-true _ b; keeps = c }
 
 module _ (n : ℕ) where
   -- ---- shapes and cubes
 
   pub shape-number : (sh : Shape) → shapeChecked sh ≡ fails n → Plain shapeNumbers n
-  unfolding isPlain isOneOf ofPacket keeping both shapeNumbers
+  unfolding isPlain isOneOf placed keeping both shapeNumbers
   shape-number sh e = plain shapeNumbers n (shape-fails (Test shapeNumbers) n refl refl refl sh e)
 
   pub size-number : (sh : Shape) → sizeChecked sh ≡ fails n → Plain shapeNumbers n
@@ -55,7 +57,7 @@ module _ (n : ℕ) where
   size-number sh = then-number (Plain shapeNumbers) n _ _ (shape-number sh) (λ z. passes-number (Plain shapeNumbers) n (packSize sh))
 
   pub line-number : (sh : Shape) (axis m : ℕ) → lineOf sh axis m ≡ fails n → Plain shapeNumbers n
-  unfolding lineOf lineIn isPlain isOneOf ofPacket keeping both shapeNumbers
+  unfolding lineOf lineIn isPlain isOneOf placed keeping both shapeNumbers
   line-number sh axis m =
       let P = Plain shapeNumbers in
       let one = plain shapeNumbers 1 refl in
@@ -64,7 +66,7 @@ module _ (n : ℕ) where
   -- 1, 2, 3 of the shape, then 4 by a test of its sizes
   slices-fail : (test : Sizes → Bool) (sh : Shape)
       → _≡_ {A = Checked Unit} (andThen (shapeChecked sh) (λ z. check (test z) 4 (passes tt))) (fails n) → Plain cubeNumbers n
-  unfolding isPlain isOneOf ofPacket keeping both cubeNumbers
+  unfolding isPlain isOneOf placed keeping both cubeNumbers
   slices-fail test sh e =
       let P = Test cubeNumbers in
       plain cubeNumbers n
@@ -83,11 +85,11 @@ module _ (n : ℕ) where
   write-air-number sh c d = slices-fail _ sh
 
   pub axis-number : (sh : Shape) (axis c : ℕ) → axisChecked sh axis c ≡ fails n → Plain cubeNumbers n
-  unfolding axisChecked isPlain isOneOf ofPacket keeping both cubeNumbers
+  unfolding axisChecked isPlain isOneOf placed keeping both cubeNumbers
   axis-number sh axis c = check-number (Plain cubeNumbers) n _ 1 _ (plain cubeNumbers 1 refl) (cube-number sh c)
 
   pub read-number : (sh : Shape) (c d from to k : ℕ) → readChecked sh c d from to k ≡ fails n → Plain cubeNumbers n
-  unfolding readChecked isPlain isOneOf ofPacket keeping both cubeNumbers
+  unfolding readChecked isPlain isOneOf placed keeping both cubeNumbers
   read-number sh c d from to k e =
       let P = Test cubeNumbers in
       plain cubeNumbers n
@@ -95,7 +97,7 @@ module _ (n : ℕ) where
       (λ z. check-number P n _ 4 _ refl (check-number P n _ 4 _ refl (check-number P n _ 4 _ refl (passes-number P n tt)))) e)
 
   pub fill-number : (sh : Shape) (c : ℕ) (fs : List ℕ) → flagsChecked sh c fs ≡ fails n → Plain fillNumbers n
-  unfolding flagsChecked isPlain isOneOf ofPacket keeping both fillNumbers
+  unfolding flagsChecked isPlain isOneOf placed keeping both fillNumbers
   fill-number sh c fs e =
       let P = Test fillNumbers in
       plain fillNumbers n
@@ -103,7 +105,7 @@ module _ (n : ℕ) where
       (λ z. check-number P n _ 4 _ refl (check-number P n _ 5 _ refl (passes-number P n tt))) e)
 
   pub mend-number : (sh : Shape) (c d : ℕ) (fs : List ℕ) → mendChecked sh c fs d ≡ fails n → Plain mendNumbers n
-  unfolding mendChecked wholeChecked isPlain isOneOf ofPacket keeping both mendNumbers
+  unfolding mendChecked wholeChecked isPlain isOneOf placed keeping both mendNumbers
   mend-number sh c d fs e =
       let P = Test mendNumbers in
       plain mendNumbers n
@@ -113,19 +115,19 @@ module _ (n : ℕ) where
   -- ---- packs
 
   pub header-number : (p : List ℕ) → headerOf p ≡ fails n → Plain headerNumbers n
-  unfolding isPlain isOneOf ofPacket keeping both headerNumbers
+  unfolding isPlain isOneOf placed keeping both headerNumbers
   header-number p e = plain headerNumbers n (header-fails (Test headerNumbers) n refl refl refl refl refl refl p e)
 
   pub job-number : (p : List ℕ) → jobOf p ≡ fails n → Plain packNumbers n
-  unfolding isPlain isOneOf ofPacket keeping both packNumbers
+  unfolding isPlain isOneOf placed keeping both packNumbers
   job-number p e = plain packNumbers n (job-fails (Test packNumbers) n refl refl refl refl refl refl p refl refl e)
 
   pub air-number : (p : List ℕ) → airOf p ≡ fails n → Plain packNumbers n
-  unfolding isPlain isOneOf ofPacket keeping both packNumbers
+  unfolding isPlain isOneOf placed keeping both packNumbers
   air-number p e = plain packNumbers n (air-fails (Test packNumbers) n refl refl refl refl refl refl p refl refl e)
 
   pub write-number : (p : List ℕ) (c d : ℕ) → writeChecked p c d ≡ fails n → Plain writerNumbers n
-  unfolding writeChecked isPlain isOneOf ofPacket keeping both writerNumbers
+  unfolding writeChecked isPlain isOneOf placed keeping both writerNumbers
   write-number p c d e =
       let P = Test writerNumbers in
       plain writerNumbers n
@@ -139,9 +141,50 @@ module _ (n : ℕ) where
       then-number P n _ _ (air-fails P n six seven one two three ten p nine eight) (λ a. check-number P n _ 4 _ four (passes-number P n a))
 
   pub receive-number : (p : List ℕ) (m : Memory) → receiveChecked p m ≡ fails n → Plain receiverNumbers n
-  unfolding isPlain isOneOf ofPacket keeping both receiverNumbers
+  unfolding isPlain isOneOf placed keeping both receiverNumbers
   receive-number p m e = plain receiverNumbers n (receive-fails (Test receiverNumbers) refl refl refl refl refl refl refl refl refl p m e)
 
   pub early-number : (p : List ℕ) (m : Memory) → receiveChecked p m ≡ fails n → OneOf earlyNumbers n
   unfolding OneOf isOneOf earlyNumbers
   early-number = receive-fails (λ k. isOneOf earlyNumbers k ≡ true) refl refl refl refl refl refl refl refl refl
+
+  -- ---- texts
+
+  air-size-fails : (P : ℕ → Type 0) → P 1 → P 2 → P 3 → P 10 → (sh : Shape) (k : ℕ) → airSizeChecked sh k ≡ fails n → P n
+  unfolding airSizeChecked
+  air-size-fails P one two three ten sh k =
+      then-number P n _ _ (shape-fails P n one two three sh) (λ z. check-number P n _ 10 _ ten (passes-number P n (airSize sh k)))
+
+  pub air-size-number : (sh : Shape) (k : ℕ) → airSizeChecked sh k ≡ fails n → Plain airNumbers n
+  unfolding isPlain isOneOf placed keeping both airNumbers
+  air-size-number sh k e = plain airNumbers n (air-size-fails (Test airNumbers) refl refl refl refl sh k e)
+
+  -- the same where 17 is listed before them
+  pub text-pack-number : (sh : Shape) (k : ℕ) → airSizeChecked sh k ≡ fails n → Plain textPackNumbers n
+  unfolding isPlain isOneOf placed keeping both textPackNumbers
+  text-pack-number sh k e = plain textPackNumbers n (air-size-fails (Test textPackNumbers) refl refl refl refl sh k e)
+
+  start-fails : (P : ℕ → Type 0) → P 1 → P 2 → P 3 → P 10 → P 4 → (sh : Shape) (k d : ℕ) → startChecked sh k d ≡ fails n → P n
+  unfolding startChecked
+  start-fails P one two three ten four sh k d =
+      then-number P n _ _ (air-size-fails P one two three ten sh k) (λ size. check-number P n _ 4 _ four (passes-number P n tt))
+
+  pub start-number : (sh : Shape) (k d : ℕ) → startChecked sh k d ≡ fails n → Plain startNumbers n
+  unfolding isPlain isOneOf placed keeping both startNumbers
+  start-number sh k d e = plain startNumbers n (start-fails (Test startNumbers) refl refl refl refl refl sh k d e)
+
+  pub read-text-number : (sh : Shape) (k d : ℕ) → startChecked sh k d ≡ fails n → Plain readTextNumbers n
+  unfolding isPlain isOneOf placed keeping both readTextNumbers
+  read-text-number sh k d e = plain readTextNumbers n (start-fails (Test readTextNumbers) refl refl refl refl refl sh k d e)
+
+  pub text-size-number : (p : List ℕ) → textSizeChecked p ≡ fails n → Plain packNumbers n
+  unfolding textSizeChecked
+  text-size-number p = then-number (Plain packNumbers) n _ _ (air-number p) (λ a. passes-number (Plain packNumbers) n (length (textIn p a)))
+
+  pub write-text-number : (p : List ℕ) (d : ℕ) → writeTextChecked p d ≡ fails n → Plain writeTextNumbers n
+  unfolding writeTextChecked isPlain isOneOf placed keeping both writeTextNumbers
+  write-text-number p d e =
+      let P = Test writeTextNumbers in
+      plain writeTextNumbers n
+      (then-number P n _ _ (air-fails P n refl refl refl refl refl refl p refl refl)
+      (λ a. check-number P n _ 4 _ refl (passes-number P n a)) e)

@@ -20,11 +20,12 @@ use Rattle.cursor.specs.declared.Cursor.{Cursor}
 use Rattle.pack.specs.declared.Header.{Header}
 use Rattle.pack.specs.declared.Section.{Section}
 use Rattle.pack.specs.Reading.{headerOf, jobOf, airOf}
-use Rattle.pack.specs.Writing.{sizeChecked, AirOutcome}
+use Rattle.pack.specs.Writing.{sizeChecked, airSizeChecked, StartOutcome, AirOutcome}
 use Rattle.writer.specs.Write.{WriteOutcome}
 use Rattle.receiver.specs.declared.Counts.{Counts}
 use Rattle.receiver.specs.Gathering.{Reception, noCounts}
 use Rattle.receiver.specs.Receive.{Memory, ReceiveOutcome}
+use Rattle.text.specs.Text.{textSizeChecked, WriteTextOutcome, ReadTextOutcome, PackSizeOutcome}
 use Rattle.demands.specs.Ends.{OneOf, keeping, Ends, Keeps, OnlyReads}
 use Rattle.demands.specs.Placed.{BeforeFilling}
 
@@ -87,6 +88,23 @@ writerNumbers = 6 ∷ 7 ∷ 1 ∷ 2 ∷ 3 ∷ 10 ∷ 9 ∷ 8 ∷ 4 ∷ []
 unfoldable pub receiverNumbers : List ℕ
 receiverNumbers = 6 ∷ 7 ∷ 1 ∷ 2 ∷ 3 ∷ 10 ∷ 9 ∷ 8 ∷ 4 ∷ 11 ∷ 12 ∷ 13 ∷ 14 ∷ []
 
+-- of a call that takes a shape and counts the packets of an air pack, and of one that is lent that pack
+unfoldable pub airNumbers : List ℕ
+airNumbers = 1 ∷ 2 ∷ 3 ∷ 10 ∷ []
+
+unfoldable pub startNumbers : List ℕ
+startNumbers = 1 ∷ 2 ∷ 3 ∷ 10 ∷ 4 ∷ []
+
+-- request P1, the text of a pack and the pack of a text: "17 …, checked before 1; the text reader then checks 1, 2, 3, 10, 4 and 11"
+unfoldable pub writeTextNumbers : List ℕ
+writeTextNumbers = 6 ∷ 7 ∷ 1 ∷ 2 ∷ 3 ∷ 10 ∷ 9 ∷ 8 ∷ 4 ∷ 11 ∷ []
+
+unfoldable pub readTextNumbers : List ℕ
+readTextNumbers = 17 ∷ 1 ∷ 2 ∷ 3 ∷ 10 ∷ 4 ∷ 11 ∷ []
+
+unfoldable pub textPackNumbers : List ℕ
+textPackNumbers = 17 ∷ 1 ∷ 2 ∷ 3 ∷ 10 ∷ []
+
 -- ---- the demand, call by call
 
 pub record Demand1 : Type 0 where
@@ -103,6 +121,17 @@ pub record Demand1 : Type 0 where
       (p : List ℕ) (value : Value (Header × Section)) → value ≡ checked (jobOf p) → Ends packNumbers OnlyReads value
   pub read-air :
       (p : List ℕ) (value : Value (Header × Section)) → value ≡ checked (airOf p) → Ends packNumbers OnlyReads value
+  -- request P1: a pack and its text
+  pub write-text :
+      (p before after : List ℕ) (value : Value Unit) → WriteTextOutcome p before after value →
+      Ends writeTextNumbers (Keeps before after) value
+  pub read-text :
+      (t before after : List ℕ) (value : Value Unit) → ReadTextOutcome t before after value →
+      Ends readTextNumbers (Keeps before after) value
+  pub text-bytes :
+      (p : List ℕ) (value : Value ℕ) → value ≡ checked (textSizeChecked p) → Ends packNumbers OnlyReads value
+  pub text-pack-bytes :
+      (t : List ℕ) (value : Value ℕ) → PackSizeOutcome t value → Ends textPackNumbers OnlyReads value
   -- "The same goes for a cube or buffer handed to any public call"
   pub encode :
       (sh : Shape) (ds before after : List ℕ) (value : Value Unit) → EncodeOutcome reduction sh ds before after value →
@@ -129,6 +158,9 @@ pub record Demand1 : Type 0 where
   pub write-air :
       (sh : Shape) (xs before after : List ℕ) (value : Value Unit) → AirOutcome sh xs before after value →
       Ends cubeNumbers (Keeps before after) value
+  pub start-air :
+      (sh : Shape) (n : ℕ) (before after : List ℕ) (value : Value Cursor) → StartOutcome sh n before after value →
+      Ends startNumbers (Keeps before after) value
   -- the sizes and lines of a shape
   pub measure :
       (sh : Shape) (value : Value Sizes) → value ≡ checked (shapeChecked sh) → Ends shapeNumbers OnlyReads value
@@ -136,3 +168,5 @@ pub record Demand1 : Type 0 where
       (sh : Shape) (value : Value ℕ) → value ≡ checked (sizeChecked sh) → Ends shapeNumbers OnlyReads value
   pub axis-line :
       (sh : Shape) (axis m : ℕ) (value : Value Line) → value ≡ checked (lineOf sh axis m) → Ends shapeNumbers OnlyReads value
+  pub air-bytes :
+      (sh : Shape) (n : ℕ) (value : Value ℕ) → value ≡ checked (airSizeChecked sh n) → Ends airNumbers OnlyReads value

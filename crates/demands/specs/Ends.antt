@@ -15,21 +15,22 @@ isOneOf (m ∷ ms) n = cond (eqb m n) true (isOneOf ms n)
 unfoldable pub OneOf : List ℕ → ℕ → Type 0
 OneOf ns n = isOneOf ns n ≡ true
 
--- "A refusal names its number and, for a packet, the packet's index from 0": those of a packet are 11 and 12.
-unfoldable pub ofPacket : List ℕ
-ofPacket = 11 ∷ 12 ∷ []
+-- "A refusal names its number and, for a packet, the packet's index from 0": those of a packet are 11 and 12. Request P1: 17 names a line of a
+-- text.
+unfoldable pub placed : List ℕ
+placed = 11 ∷ 12 ∷ 17 ∷ []
 
--- "Numbers 1 to 11 and 15 change no lent byte"
+-- "Numbers 1 to 11 and 15 change no lent byte, nor does a number added later unless its request says so."
 unfoldable pub keeping : List ℕ
-keeping = 1 ∷ 2 ∷ 3 ∷ 4 ∷ 5 ∷ 6 ∷ 7 ∷ 8 ∷ 9 ∷ 10 ∷ 11 ∷ 15 ∷ []
+keeping = 1 ∷ 2 ∷ 3 ∷ 4 ∷ 5 ∷ 6 ∷ 7 ∷ 8 ∷ 9 ∷ 10 ∷ 11 ∷ 15 ∷ 17 ∷ []
 
--- The call ends in a result, or in one of `numbers`, with the packet's index exactly where the number is of a packet; n leaves `Leaves n`.
+-- The call ends in a result, or in one of `numbers`, with a place exactly where the number names one; n leaves `Leaves n`.
 pub data Ends {A : Type 0} (numbers : List ℕ) (Leaves : ℕ → Type 0) : Value A → Type 0 where
   in-result : (a : A) → Ends numbers Leaves (gives a)
   in-refusal :
-      (n : ℕ) → OneOf numbers n → isOneOf ofPacket n ≡ false → Leaves n → Ends numbers Leaves (refused n)
-  in-packet :
-      (n i : ℕ) → OneOf numbers n → OneOf ofPacket n → Leaves n → Ends numbers Leaves (refused-at n i)
+      (n : ℕ) → OneOf numbers n → isOneOf placed n ≡ false → Leaves n → Ends numbers Leaves (refused n)
+  in-place :
+      (n i : ℕ) → OneOf numbers n → OneOf placed n → Leaves n → Ends numbers Leaves (refused-at n i)
 
 -- What the refusals of a call leave that changes no lent byte with any of its numbers: `after`, the slice it writes to, is as it was
 abbrev pub Keeps : List ℕ → List ℕ → ℕ → Type 0

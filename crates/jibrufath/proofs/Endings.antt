@@ -6,11 +6,10 @@ use Rattle.answer.specs.declared.Refusal.the-variants.{Plain, Packet, Line}
 use Rattle.answer.specs.Values.{refusal, numberOf, placeOf}
 use Rattle.receiver.specs.declared.Ending.{Ending}
 use Rattle.receiver.specs.declared.Ending.the-variants.{File, Left, Refused}
-use Rattle.receiver.specs.Gathering.{Reception}
 use Rattle.receiver.specs.Receive.{endingValue}
 use Rattle.jibrufath.specs.Exports.{beside, packed}
 use Rattle.jibrufath.specs.Packs.{receptionLeft, fileBytes}
-use Rattle.jibrufath.proofs.Words.{packed-result, refusal-number, refusal-beside}
+use Rattle.jibrufath.proofs.Words.{packed-result, refusal-beside, refused-packed}
 
 module _ (e : Ending) where
   pub left-beside : (n : ℕ) → e ≡ Left n → beside receptionLeft (endingValue e) ≡ n
@@ -29,10 +28,10 @@ module _ (e : Ending) where
   unfolding endingValue receptionLeft
   left-word n q = sym (packed-result receptionLeft _ _ (ap endingValue q))
 
-  pub refused-word : (f : Refusal) (number place : ℕ) → e ≡ Refused f → number ≡ numberOf {A = Unit} (refusal f)
-      → place ≡ placeOf {A = Unit} (refusal f) → number + 256 * place ≡ packed receptionLeft (endingValue e)
-  unfolding packed endingValue
-  refused-word f number place q n k = rw (q, n, k, refusal-number Reception f, refusal-beside receptionLeft f)
+  pub refused-word : (f : Refusal) (word : ℕ) → e ≡ Refused f → word ≡ numberOf {A = Unit} (refusal f) + 256 * placeOf {A = Unit} (refusal f)
+      → word ≡ packed receptionLeft (endingValue e)
+  unfolding endingValue
+  refused-word f word q = refused-packed receptionLeft (endingValue e) f (ap endingValue q) word
 
 -- no file comes out with a refusal
 no-file : (f : Refusal) → 0 ≡ fileBytes (refusal f)

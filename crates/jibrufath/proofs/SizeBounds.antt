@@ -12,7 +12,7 @@ use Rattle.shape.specs.Shapes.{Valid, cells, capacity, sizes, shapeChecked}
 use Rattle.shape.proofs.Valid.{shape-passed, data-length-le, volume-le, bytes-le}
 use Rattle.pack.specs.declared.PackSize.{PackSize}
 use Rattle.pack.specs.declared.PackSize.the-variants.{Bytes, Refused}
-use Rattle.pack.specs.Packs.{packSize}
+use Rattle.pack.specs.Packs.{airSize, packSize}
 use Rattle.pack.specs.Writing.{sizeChecked, sizeValue}
 
 pub record Bounded (z : Sizes) : Type 0 where
@@ -50,7 +50,7 @@ size-valid sh n e =
     (shape-passed sh z passed .0, sym (passes-injective _ _ same))
 
 pub pack-size-le : (sh : Shape) (n : ℕ) → sizeChecked sh ≡ passes n → n ≤ 17029072142
-unfolding packSize cells
+unfolding packSize airSize cells
 pack-size-le sh n e =
     let (v, same) = size-valid sh n e in
     let few = volume-le _ _ _ (v .l1-high) (v .l2-high) (v .l3-high) in

@@ -1,6 +1,6 @@
 -- Words of 64 bits: a word gives back the number and what comes with it, and two values of the table with one word are one value.
 use mathlib.Core.Path.{_≡_, refl, sym, ap, _∙_}
-use Prim.Native.Nat.{ℕ, _*_, _/_, _%_, _^_, _<_}
+use Prim.Native.Nat.{ℕ, _+_, _*_, _/_, _%_, _^_, _<_}
 use native.Mathlib.Omega.{arith}
 use Rattle.answer.specs.declared.Refusal.{Refusal}
 use Rattle.answer.specs.declared.Refusal.the-variants.{Plain, Packet, Line}
@@ -50,6 +50,16 @@ module _ {A : Type 0} (count : A → ℕ) (v : Value A) where
   -- a refusal that names no place: its number
   pub packed-refusal : (f : Refusal) → v ≡ refusal f → beside count v ≡ 0 → packed count v ≡ numberOf {A = Unit} (refusal f)
   packed-refusal f e b = packed-alone b ∙ ap numberOf e ∙ refusal-number A f
+
+-- ---- the words of refusals
+
+module _ {A : Type 0} (count : A → ℕ) (v : Value A) (f : Refusal) (e : v ≡ refusal f) where
+  pub refused-place : beside count v < 2 ^ 45 → placeOf {A = Unit} (refusal f) < 2 ^ 45
+  refused-place l = rw (refusal-beside count f) at (rw e at l)
+
+  pub refused-packed : (word : ℕ) → word ≡ numberOf {A = Unit} (refusal f) + 256 * placeOf {A = Unit} (refusal f) → word ≡ packed count v
+  unfolding packed
+  refused-packed word q = rw (e, refusal-number A f, refusal-beside count f) q
 
 -- ---- the words of calls that only check: no check names a place
 

@@ -39,3 +39,7 @@ truth false = 0
 -- "the answer carries K's size"
 unfoldable pub cellsLeft : CellsLeft → ℕ
 cellsLeft (left k) = k
+
+-- a size
+unfoldable pub whole : ℕ → ℕ
+whole n = n

@@ -1,14 +1,17 @@
-// The calls that C and Rust link: a shape as four numbers, an answer as one word of 64 bits. Calls on cubes, on packs, on sizes and in the
-// field.
+// The calls that C and Rust link: a shape as four numbers, an answer as one word of 64 bits. Calls on cubes, on packs, on texts, on sizes and
+// in the field.
 mod cubes;
 mod elements;
 mod needs;
 mod packs;
 mod sizes;
+mod texts;
 
 use answer::Answer;
+use answer::Refusal;
 ghost use mathlib.Core.Path.{_≡_};
-ghost use Rattle.answer.specs.Values.{answerValue, numberOf};
+ghost use Prim.Native.Nat.{_+_, _*_, _^_, _<_};
+ghost use Rattle.answer.specs.Values.{answerValue, refusal, numberOf, placeOf};
 
 // The word of an answer that carries no count and names no place.
 pub(crate) fn word(answer: Answer) -> u64
@@ -18,4 +21,12 @@ pub(crate) fn word(answer: Answer) -> u64
         Answer::Done => 0,
         Answer::Refused(f) => answer::number(f),
     }
+}
+
+// The word of a refusal: its number, and above it the place that it names.
+pub(crate) fn refusal_word(f: Refusal) -> u64
+    requires { ⌜ placeOf {A = Unit} (refusal f) < 2 ^ 45 ⌝ }
+    ensures { λ r. ⌜ r ≡ numberOf {A = Unit} (refusal f) + 256 * placeOf {A = Unit} (refusal f) ⌝ }
+{
+    answer::number(f) + 256 * answer::place(f)
 }

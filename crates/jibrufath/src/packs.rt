@@ -56,6 +56,6 @@ fn ending_word(ending: Ending) -> u64
     match ending {
         Ending::File(_) => 0,
         Ending::Left(n) => 256 * (n as u64),
-        Ending::Refused(f) => answer::number(f) + 256 * answer::place(f),
+        Ending::Refused(f) => crate::refusal_word(f),
     }
 }
