@@ -1,5 +1,5 @@
-/* Fuzzing of the exported calls: an input's first byte chooses a call, its second the lengths of lent slices, the rest is a shape and a pack or
- * a cube. Whatever the input is, the answer must be one that the header allows, and every lent byte as the header says. */
+/* Fuzzing of the exported calls: an input's first byte chooses a call, its second the lengths of lent slices, the rest is a shape and a pack,
+ * a cube or a text. Whatever the input is, the answer must be one that the header allows, and every lent byte as the header says. */
 #include "calls.h"
 #include "blocks.h"
 
@@ -7,21 +7,21 @@
 #include <stdlib.h>
 #include <string.h>
 
-static const char *const names[CALLS] = {
+static const char *const names[NOTED] = {
     "receive_pack", "write_pack", "write, lose, receive", "write, lose, damage, receive", "fill", "mend", "mend_axis", "encode, extract",
-    "sizes", "needs", "is_code_cube"};
+    "sizes", "needs", "is_code_cube", "read_text", "write_text, read_text", "write_text, change, read_text", "text_bytes, text_pack_bytes"};
 
 static fuzz_call *const calls[CALLS] = {
     fuzz_receive, fuzz_write, fuzz_return, fuzz_damage, fuzz_fill, fuzz_mend, fuzz_mend_axis, fuzz_encode, fuzz_sizes, fuzz_needs,
-    fuzz_check};
+    fuzz_check, fuzz_read_text, fuzz_write_text, fuzz_change_text};
 
 /* Each call with each number, and how large the count was: feedback for libFuzzer beside the library's own blocks. */
-__attribute__((section("__libfuzzer_extra_counters"))) static uint8_t answered[CALLS][17][8];
+__attribute__((section("__libfuzzer_extra_counters"))) static uint8_t answered[NOTED][MOST_NUMBER + 1][8];
 
 /* How often each call gave each number. */
-static unsigned long answers[CALLS][17];
+static unsigned long answers[NOTED][MOST_NUMBER + 1];
 
-struct lent pack, cube, flags, file, output, data;
+struct lent pack, cube, flags, file, output, data, text;
 
 uint8_t next_byte(struct input *input)
 {
@@ -68,16 +68,16 @@ size_t near(size_t exact, uint8_t choice, int slice)
 void note(enum call call, uint64_t answer, uint32_t numbers)
 {
     unsigned number = (unsigned)(answer & 0xFF);
-    require(number <= 16 && (numbers >> number & 1), "a number of the call");
+    require(number <= MOST_NUMBER && (numbers >> number & 1), "a number of the call");
     uint64_t count = jibrufath_count(answer);
-    int counted = number == JIBRUFATH_OK || number == JIBRUFATH_CELL_INDEX || number == JIBRUFATH_CONFLICT;
+    int counted = number == JIBRUFATH_OK || number == JIBRUFATH_CELL_INDEX || number == JIBRUFATH_CONFLICT || number == JIBRUFATH_LINE;
     require(counted || count == 0, "no count with this refusal");
     int size = 0;
     while (size < 7 && count >> (2 * size) != 0)
         size++;
     answered[call][number][size] = 1;
     answers[call][number]++;
-    const struct lent *slices[] = {&pack, &cube, &flags, &file, &output, &data};
+    const struct lent *slices[] = {&pack, &cube, &flags, &file, &output, &data, &text};
     for (size_t i = 0; i < sizeof slices / sizeof *slices; i++)
         require(slices[i]->bytes == NULL || margin_kept(slices[i]), "the bytes beside a slice");
 }
@@ -100,9 +100,9 @@ void check_filled(const struct shape *shape, const uint8_t *placed_flags, const 
 
 static void tell_answers(void)
 {
-    for (int call = 0; call < CALLS; call++) {
+    for (int call = 0; call < NOTED; call++) {
         fprintf(stderr, "%s:", names[call]);
-        for (int number = 0; number <= 16; number++)
+        for (int number = 0; number <= MOST_NUMBER; number++)
             if (answers[call][number] > 0)
                 fprintf(stderr, " %d (%lu)", number, answers[call][number]);
         fprintf(stderr, "\n");

@@ -25,9 +25,16 @@ struct shape next_shape(struct input *input);
 size_t near(size_t exact, uint8_t choice, int slice);
 
 /* What the calls are lent. */
-extern struct lent pack, cube, flags, file, output, data;
+extern struct lent pack, cube, flags, file, output, data, text;
 
-enum call { RECEIVE, WRITE, RETURN, DAMAGE, FILL, MEND, MEND_AXIS, ENCODE, SIZES, NEEDS, CHECK, CALLS };
+/* The calls that an input chooses from, then one that others make. */
+enum call {
+    RECEIVE, WRITE, RETURN, DAMAGE, FILL, MEND, MEND_AXIS, ENCODE, SIZES, NEEDS, CHECK, READ_TEXT, WRITE_TEXT, CHANGE_TEXT,
+    CALLS, TEXT_SIZES = CALLS, NOTED
+};
+
+/* The largest number of the table. */
+#define MOST_NUMBER 17
 
 /* Counts an answer, and requires one of the numbers that the call can give, as bits. */
 void note(enum call call, uint64_t answer, uint32_t numbers);
@@ -39,5 +46,6 @@ typedef void fuzz_call(struct input input, uint8_t choice);
 
 fuzz_call fuzz_receive, fuzz_write, fuzz_return, fuzz_damage, fuzz_needs;
 fuzz_call fuzz_fill, fuzz_mend, fuzz_mend_axis, fuzz_encode, fuzz_check, fuzz_sizes;
+fuzz_call fuzz_read_text, fuzz_write_text, fuzz_change_text;
 
 #endif

@@ -17,14 +17,16 @@
  *   data      jibrufath_capacity: w * (l1 - 2) * (l2 - 2) * (l3 - 2)
  *   file      capacity - 4, the most that a file can have; the other four bytes of the data string are its length
  *   output    jibrufath_pack_bytes: 17 + cells * (3 + w)
+ *   text      jibrufath_text_bytes, of the pack whose text is written
+ *   air       where a text is read, jibrufath_text_pack_bytes: 17 + packets * (3 + w)
  *
  *   In all a writer is lent w * cells + 17 + cells * (3 + w) bytes, and a receiver w * cells + cells + capacity - 4. jibrufath_needs
  *   gives the sizes that a pack asks for. The tests encode cubes up to the largest: 128 by 128 by 16 cells of 1,024 bytes, which is
  *   268,435,456 in all, and 255 by 255 by 255 of 16.
  *
- *   The stack that a call takes does not grow with the shape. Measured on the shapes of examples/c/stack.c, the most was 9.6 kB in
- *   encode, is_code_cube, fill, write_pack and receive_pack, 17.2 kB in mend and mend_axis, and 0.4 kB in all others. 12 kB, 20 kB
- *   and 1 kB are a safe reserve; a test holds the calls to these.
+ *   The stack that a call takes does not grow with the shape. Measured on the shapes of examples/c/stack.c, the most was 9.8 kB in
+ *   encode, is_code_cube, fill, write_pack and receive_pack, 17.2 kB in mend and mend_axis, 3.7 kB in write_text, and 0.7 kB in all
+ *   others. 12 kB, 20 kB, 5 kB and 1 kB are a safe reserve; a test holds the calls to these.
  *
  * Numbers
  *   Lengths and all other numbers are uint64_t, which is what the machine code takes: the archive is for x86-64, and links with no
@@ -32,11 +34,12 @@
  *
  * Answers
  *   Every call but those of the field answers with 64 bits. The low byte is a number of the table below, JIBRUFATH_OK or a refusal.
- *   What stands above it is a count with JIBRUFATH_OK (cells left, a size, or 1 for a code cube) and the packet's index from 0 with
- *   refusals 11 and 12; it is 0 with all others. jibrufath_number and jibrufath_count take an answer apart.
+ *   What stands above it is a count with JIBRUFATH_OK (cells left, a size, or 1 for a code cube), the packet's index from 0 with
+ *   refusals 11 and 12, and the line's number from 1 with refusal 17; it is 0 with all others. jibrufath_number and jibrufath_count
+ *   take an answer apart.
  *
  *   A call makes its checks in the order in which its comment names them, and answers with the first that fails. The checks of a
- *   shape are 1, 2, 3, in this order. Refusals 1 to 11 and 15 change no lent byte, and no refusal changes the file buffer. */
+ *   shape are 1, 2, 3, in this order. Refusals 1 to 11, 15 and 17 change no lent byte, and no refusal changes the file buffer. */
 #ifndef JIBRUFATH_H
 #define JIBRUFATH_H
 
@@ -44,7 +47,7 @@
 
 /* The version of this interface. The major number grows where a program must be changed or compiled again. */
 #define JIBRUFATH_VERSION_MAJOR 2
-#define JIBRUFATH_VERSION_MINOR 0
+#define JIBRUFATH_VERSION_MINOR 1
 
 #ifdef __cplusplus
 extern "C" {
@@ -68,7 +71,8 @@ enum jibrufath_answer {
     JIBRUFATH_CONTRADICTION = 13,     /* the known cells contradict each other */
     JIBRUFATH_FILE_LENGTH = 14,       /* the data string holds no file: too long, or bytes behind it that are not 00h */
     JIBRUFATH_ERASURE = 15,           /* a flag is 1, and mending takes only whole cubes */
-    JIBRUFATH_UNCORRECTED = 16        /* what mending leaves is not a code cube */
+    JIBRUFATH_UNCORRECTED = 16,       /* what mending leaves is not a code cube */
+    JIBRUFATH_LINE = 17               /* a line of a text breaks the form; the count is the line's number from 1 */
 };
 
 /* The number of an answer, and its count. */
@@ -169,6 +173,50 @@ uint64_t jibrufath_receive_pack(
     uint8_t *flags, uint64_t flags_len,
     uint8_t *file, uint64_t file_len,
     uint64_t counts[16]);
+
+/* Texts. The text of an air pack has a line for its shape and one for each packet, in the order of the pack:
+ *   shape l1 l2 l3 w
+ *   packet a b c, then the w bytes of the cell
+ * Words are parted by one space, the bytes too, and every line ends in a newline (0Ah), the last one too. Numbers are decimals of one
+ * to five digits without leading zeros, bytes two hexadecimal digits, lower case. A text has at most 4,294,967,295 packets; the w of
+ * its first line, whatever it is, says how many bytes stand on each packet line. Characters are ASCII, and no 00h ends a text.
+ *
+ * What jibrufath_write_text writes, jibrufath_read_text reads back to the same pack; what jibrufath_read_text accepts,
+ * jibrufath_write_text writes back to the same characters. Repeats, and copies of a cell that differ, pass both. */
+
+/* The bytes of a pack's text, as the count, whatever cells its packets name.
+ *
+ * Checks: 6 count 1 is cut; 7; 6 section 1 is cut; 1, 2, 3; 10 capacity below 4; 6 count 2 is cut; 9 count 2 is not 0; 6 count 3 is
+ * cut; 6 the packets are cut; 8. */
+uint64_t jibrufath_text_bytes(
+    const uint8_t *air, uint64_t air_len);
+
+/* Writes the text of an air pack.
+ *
+ * air and its length; text. OK: text is the text of the pack; every byte of it is written, and what it held does not matter. A refusal
+ * changes nothing.
+ *
+ * Checks: 6 count 1 is cut; 7; 6 section 1 is cut; 1, 2, 3; 10 capacity below 4; 6 count 2 is cut; 9 count 2 is not 0; 6 count 3 is
+ * cut; 6 the packets are cut; 8; 4; 11 of any packet. */
+uint64_t jibrufath_write_text(
+    const uint8_t *air, uint64_t air_len,
+    uint8_t *text, uint64_t text_len);
+
+/* The bytes of a text's air pack, as the count, whatever cells its packets name. Checks: 17 of any line; 1, 2, 3; 10 capacity below
+ * 4. */
+uint64_t jibrufath_text_pack_bytes(
+    const uint8_t *text, uint64_t text_len);
+
+/* Reads a text, and writes its air pack.
+ *
+ * text and its length, any bytes; air. OK: air is the pack of the text; every byte of it is written, and what it held does not matter.
+ * A refusal changes nothing.
+ *
+ * Checks: 17 of any line; 1, 2, 3; 10 capacity below 4; 4; 11 of any packet. A number is judged as it stands in the text: a length of
+ * 259 is 1, a coordinate of 256 is 11. */
+uint64_t jibrufath_read_text(
+    const uint8_t *text, uint64_t text_len,
+    uint8_t *air, uint64_t air_len);
 
 /* Cubes. */
 

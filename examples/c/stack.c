@@ -9,17 +9,18 @@
 #include <ucontext.h>
 
 enum { STACK = 1 << 18, PAINT = 0xA5 };
-enum call { NOTHING, ENCODE, EXTRACT, CHECK, FILL, MEND, MEND_AXIS, WRITE_PACK, RECEIVE_PACK, NEEDS, SIZES, FIELD, CALLS };
+enum call { NOTHING, ENCODE, EXTRACT, CHECK, FILL, MEND, MEND_AXIS, WRITE_PACK, RECEIVE_PACK, NEEDS, WRITE_TEXT, READ_TEXT, TEXT_SIZES, SIZES,
+    FIELD, CALLS };
 
 static const char *const names[CALLS] = {"", "encode", "extract", "is_code_cube", "fill", "mend", "mend_axis", "write_pack", "receive_pack", "needs",
-    "sizes", "field"};
+    "write_text", "read_text", "text sizes", "sizes", "field"};
 
 static const uint64_t shapes[][4] = {{3, 3, 3, 5}, {5, 5, 5, 16}, {4, 4, 4, 63}, {12, 12, 8, 20}, {9, 9, 9, 1024}, {255, 3, 3, 1024},
     {3, 255, 3, 1024}, {3, 3, 255, 1024}, {255, 255, 3, 1}, {20, 20, 10, 397}, {40, 40, 40, 64}, {69, 69, 25, 397}};
 
 /* A shape, its sizes, and the memory that its calls are lent. */
-static uint64_t l1, l2, l3, w, cells, bytes, capacity, output_len, job_len;
-static uint8_t *cube, *second, *flags, *data, *file, *output, *job;
+static uint64_t l1, l2, l3, w, cells, bytes, capacity, output_len, job_len, text_len;
+static uint8_t *cube, *second, *flags, *data, *file, *output, *job, *text;
 static enum call measured;
 static uint64_t answer;
 
@@ -41,6 +42,11 @@ static void make_call(void)
         answer = jibrufath_receive_pack(output, output_len, cube, bytes, flags, cells, file, capacity - 4, places);
         break;
     case NEEDS: answer = jibrufath_needs(job, job_len, places); break;
+    case WRITE_TEXT: answer = jibrufath_write_text(output, output_len, text, text_len); break;
+    case READ_TEXT: answer = jibrufath_read_text(text, text_len, output, output_len); break;
+    case TEXT_SIZES:
+        answer = jibrufath_number(jibrufath_text_bytes(output, output_len)) | jibrufath_text_pack_bytes(text, text_len);
+        break;
     case SIZES: answer = jibrufath_pack_bytes(l1, l2, l3, w); break;
     case FIELD: answer = (uint64_t)jibrufath_mul(jibrufath_inverse(3), jibrufath_pow(200)) << 8; break;
     default: break;
@@ -73,7 +79,7 @@ static uint8_t *lend(uint64_t len)
     return memory;
 }
 
-/* Lends all memory for a shape, with a job pack of the longest file. */
+/* Lends all memory for a shape, with a job pack of the longest file and all its packets in output. */
 static void begin(const uint64_t shape[4])
 {
     l1 = shape[0], l2 = shape[1], l3 = shape[2], w = shape[3];
@@ -90,6 +96,9 @@ static void begin(const uint64_t shape[4])
         job[9 + i] = (uint8_t)((capacity - 4) >> (8 * i));
     for (uint64_t i = 0; i < capacity; i++)
         data[i] = (uint8_t)(i * 31 + 7);
+    jibrufath_write_pack(job, job_len, cube, bytes, output, output_len);
+    text_len = jibrufath_count(jibrufath_text_bytes(output, output_len));
+    text = lend(text_len);
 }
 
 /* What a call is to work on: a code cube with cells to fill or a wrong byte to mend. */
@@ -115,7 +124,7 @@ int main(void)
             if (jibrufath_number(answer) != JIBRUFATH_OK)
                 return 1;
         }
-        free(cube), free(second), free(flags), free(data), free(file), free(output), free(job);
+        free(cube), free(second), free(flags), free(data), free(file), free(output), free(job), free(text);
     }
     for (enum call call = ENCODE; call < CALLS; call++)
         printf("%s %zu\n", names[call], most[call]);

@@ -1,13 +1,14 @@
 //! The benchmark: encoding, filling, mending and receiving against memcpy of the cube, and encoding against ISA-L,
-//! GF-Complete, zfec and par2.
+//! GF-Complete, zfec and par2; writing and reading the text of a pack against xxd.
 //!
 //! All times of one table row come from the same run, in rounds that take every candidate in turn; each is the minimum of its
 //! rounds, in processor time of the thread. Buffers are allocated and touched before any timing. `bench --svg PATH` also draws
-//! the tables. The programs zfec and par2 alone are timed as their table says.
+//! the tables. The programs zfec, par2 and xxd alone are timed as their tables say.
 
 mod clock;
 mod cube_encoder;
 mod encoding;
+mod folder;
 mod gf_complete;
 mod growth;
 mod isal;
@@ -15,6 +16,7 @@ mod plot;
 mod programs;
 mod receiving;
 mod repair;
+mod texts;
 
 use std::env;
 use std::error::Error;
@@ -60,7 +62,9 @@ fn main() -> Result<(), Box<dyn Error>> {
         fs::write(path, plot::draw(&ratios, &sizes, &shares))?;
     }
     println!();
-    programs::table()
+    programs::table()?;
+    println!();
+    texts::table()
 }
 
 impl Ratio {

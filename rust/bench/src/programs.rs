@@ -2,18 +2,17 @@
 //!
 //! Their times are far above all others, so that they have no bars in the drawing.
 
-use std::env;
 use std::error::Error;
 use std::fs;
 use std::hint::black_box;
 use std::io::ErrorKind;
-use std::path::PathBuf;
-use std::process::{self, Command, Stdio};
+use std::process::{Command, Stdio};
 use std::time::Duration;
 
 use jibrufath::{Refusal, encode};
 use reference::random::Random;
 
+use crate::folder::Folder;
 use crate::{REFERENCE_SET, clock, least_times};
 
 /// Each program is measured so often, and its least time taken.
@@ -53,9 +52,6 @@ struct Ours {
     cube: Vec<u8>,
     copy: Vec<u8>,
 }
-
-/// A folder for the files of one run, removed with all that is in it when the value goes.
-struct Folder(PathBuf);
 
 /// The least times of memcpy and of our encode, which every row is compared with.
 struct Table {
@@ -153,12 +149,17 @@ fn par2_once(data: &[u8]) -> Result<Option<Duration>, Box<dyn Error>> {
         .current_dir(&folder.0)
         // Even told to be silent, par2 prints an empty line.
         .stdout(Stdio::null());
+    run(&mut command)
+}
+
+/// The processor time of a program that is run to its end, if it is installed.
+pub fn run(command: &mut Command) -> Result<Option<Duration>, Box<dyn Error>> {
     let (status, time) = clock::time_of_children(|| command.status());
     match status {
         Err(error) if error.kind() == ErrorKind::NotFound => Ok(None),
         Err(error) => Err(error.into()),
         Ok(status) if status.success() => Ok(Some(time)),
-        Ok(status) => Err(format!("par2: {status}").into()),
+        Ok(status) => Err(format!("{command:?}: {status}").into()),
     }
 }
 
@@ -192,21 +193,5 @@ impl Table {
             over(self.memcpy),
             over(self.ours)
         );
-    }
-}
-
-impl Folder {
-    fn new() -> std::io::Result<Folder> {
-        let path = env::temp_dir().join(format!("bench-{}", process::id()));
-        fs::create_dir(&path)?;
-        Ok(Folder(path))
-    }
-}
-
-impl Drop for Folder {
-    fn drop(&mut self) {
-        if let Err(error) = fs::remove_dir_all(&self.0) {
-            eprintln!("{}: {error}", self.0.display());
-        }
     }
 }

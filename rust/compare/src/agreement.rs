@@ -54,6 +54,14 @@ pub fn numbered<T>(result: Result<T, Refusal>) -> Result<T, u8> {
     result.map_err(Refusal::number)
 }
 
+/// A refusal as the independent program gives it: its number, with the packet or the line that it names.
+pub fn placed(refusal: Refusal) -> reference::Refusal {
+    reference::Refusal {
+        number: refusal.number(),
+        place: refusal.packet().or(refusal.line()),
+    }
+}
+
 /// A slice to lend, at any alignment inside a longer buffer.
 struct Lent {
     buffer: Vec<u8>,

@@ -5,11 +5,15 @@ mod agreement;
 mod cubes;
 mod packs;
 mod shapes;
+mod text_trial;
+mod texts;
 mod trial;
 
 use agreement::compare;
-pub use agreement::{Agreed, agree, numbered};
+pub use agreement::{Agreed, agree, numbered, placed};
 pub use cubes::{Embedded, random_code_cube};
 pub use packs::{KINDS, Source};
 pub use shapes::{LARGE_SHAPES, SHAPES_AT_THE_LIMITS, random_shape, twin};
+pub use text_trial::{FromText, ToText};
+pub use texts::{TEXT_KINDS, broken_words};
 pub use trial::{Answers, Lens, Trial};

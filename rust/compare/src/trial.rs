@@ -5,7 +5,7 @@ use reference::pack::read_shape;
 use reference::random::Random;
 use reference::{Outcome, Shape};
 
-use crate::{KINDS, compare, numbered};
+use crate::{KINDS, compare, numbered, placed};
 
 /// A pack, and the lengths of the slices that are lent with it.
 #[derive(Debug)]
@@ -115,10 +115,7 @@ impl Trial {
 fn told(
     result: Result<Received, jibrufath::Refusal>,
 ) -> Result<reference::Received, reference::Refusal> {
-    let received = result.map_err(|refusal| reference::Refusal {
-        number: refusal.number(),
-        packet: refusal.packet(),
-    })?;
+    let received = result.map_err(placed)?;
     let (outcome, packets, repeats) = match received {
         Received::File {
             len,

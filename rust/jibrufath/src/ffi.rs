@@ -36,6 +36,14 @@ unsafe extern "C" {
         counts: *mut [u64; 16],
     ) -> u64;
 
+    pub fn jibrufath_text_bytes(air: *const u8, air_len: u64) -> u64;
+
+    pub fn jibrufath_text_pack_bytes(text: *const u8, text_len: u64) -> u64;
+
+    pub fn jibrufath_write_text(air: *const u8, air_len: u64, text: *mut u8, text_len: u64) -> u64;
+
+    pub fn jibrufath_read_text(text: *const u8, text_len: u64, air: *mut u8, air_len: u64) -> u64;
+
     pub fn jibrufath_encode(
         data: *const u8,
         data_len: u64,

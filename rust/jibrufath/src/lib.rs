@@ -23,8 +23,11 @@
 //! # Ok::<(), jibrufath::Error>(())
 //! ```
 //!
-//! [`write()`], [`receive`], [`AirPack`] and [`job_pack`] allocate, and say by their [`Error`] where the system has no memory. All
-//! other calls allocate nothing: the caller lends all memory, with the lengths that [`Shape`] or [`needs()`] gives.
+//! [`mod@text`] has the text twin of an air pack, a line for each packet, and the way back.
+//!
+//! [`write()`], [`receive`], [`AirPack`], [`job_pack`], [`text::to_text`] and [`text::from_text`] allocate, and say by their
+//! [`Error`] where the system has no memory. All other calls allocate nothing: the caller lends all memory, with the lengths that
+//! [`Shape`], [`needs()`], [`text::text_bytes`] or [`text::text_pack_bytes`] gives.
 
 #![warn(missing_docs)]
 
@@ -39,6 +42,7 @@ mod pack;
 mod receive;
 mod refusal;
 mod shape;
+pub mod text;
 mod write;
 
 pub use encode::{encode, extract, is_code_cube};

@@ -53,6 +53,11 @@ pub enum Refusal {
     Erasure,
     /// 16: what mending leaves is not a code cube.
     Uncorrected,
+    /// 17: a line of a text breaks the form.
+    Line {
+        /// The line's number, from 1.
+        line: u64,
+    },
 }
 
 impl Refusal {
@@ -79,6 +84,7 @@ impl Refusal {
             Refusal::FileLength => 14,
             Refusal::Erasure => 15,
             Refusal::Uncorrected => 16,
+            Refusal::Line { .. } => 17,
         }
     }
 
@@ -97,8 +103,23 @@ impl Refusal {
         }
     }
 
-    /// The refusal with this number, of this packet where it is one of a packet.
-    fn numbered(number: u64, packet: u64) -> Refusal {
+    /// The number of the line that was refused, from 1; none where the refusal is not of a line.
+    ///
+    /// ```
+    /// use jibrufath::Refusal;
+    ///
+    /// assert_eq!(Refusal::Line { line: 3 }.line(), Some(3));
+    /// assert_eq!(Refusal::Contradiction.line(), None);
+    /// ```
+    pub fn line(self) -> Option<u64> {
+        match self {
+            Refusal::Line { line } => Some(line),
+            _ => None,
+        }
+    }
+
+    /// The refusal with this number, of this packet or line where it is one of a packet or a line.
+    fn numbered(number: u64, place: u64) -> Refusal {
         match number {
             1 => Refusal::Dimension,
             2 => Refusal::PacketSize,
@@ -110,12 +131,13 @@ impl Refusal {
             8 => Refusal::TrailingBytes,
             9 => Refusal::SectionCount,
             10 => Refusal::Capacity,
-            11 => Refusal::CellIndex { packet },
-            12 => Refusal::Conflict { packet },
+            11 => Refusal::CellIndex { packet: place },
+            12 => Refusal::Conflict { packet: place },
             13 => Refusal::Contradiction,
             14 => Refusal::FileLength,
             15 => Refusal::Erasure,
             16 => Refusal::Uncorrected,
+            17 => Refusal::Line { line: place },
             _ => panic!("the library answers with numbers of the table"),
         }
     }
@@ -140,11 +162,13 @@ impl fmt::Display for Refusal {
             Refusal::FileLength => "the data string holds no file",
             Refusal::Erasure => "a cell is flagged missing",
             Refusal::Uncorrected => "what mending leaves is not a code cube",
+            Refusal::Line { .. } => "a line of the text breaks the form",
         };
         write!(f, "refused {}: {meaning}", self.number())?;
-        match self.packet() {
-            Some(index) => write!(f, ", packet {index}"),
-            None => Ok(()),
+        match (self.packet(), self.line()) {
+            (Some(index), _) => write!(f, ", packet {index}"),
+            (_, Some(line)) => write!(f, ", line {line}"),
+            _ => Ok(()),
         }
     }
 }
@@ -152,7 +176,7 @@ impl fmt::Display for Refusal {
 impl std::error::Error for Refusal {}
 
 /// Reads an answer of the library: the refusal's number (0 for none) in the low byte; above it a count, or with the refusal of
-/// a packet its index.
+/// a packet its index, or with that of a line its number.
 pub(crate) fn answer(word: u64) -> Result<usize, Refusal> {
     let (number, count) = (word % 256, word / 256);
     match number {
@@ -169,20 +193,38 @@ mod tests {
     fn answers() {
         assert_eq!(answer(0), Ok(0));
         assert_eq!(answer(27 * 256), Ok(27));
-        for number in 1..=16u8 {
+        for number in 1..=17u8 {
             let refusal = answer(u64::from(number) + 7 * 256).unwrap_err();
             assert_eq!(refusal.number(), number);
             let packet = matches!(number, 11 | 12).then_some(7);
             assert_eq!(refusal.packet(), packet);
+            assert_eq!(refusal.line(), (number == 17).then_some(7));
         }
     }
 
     #[test]
-    fn a_packet_is_named() {
-        let refusal = Refusal::CellIndex { packet: 7 };
-        assert_eq!(
-            refusal.to_string(),
-            "refused 11: a packet names a cell outside the cube, packet 7"
-        );
+    fn a_packet_or_a_line_is_named() {
+        for (refusal, told) in [
+            (
+                Refusal::CellIndex { packet: 7 },
+                "refused 11: a packet names a cell outside the cube, packet 7",
+            ),
+            (
+                Refusal::Line { line: 3 },
+                "refused 17: a line of the text breaks the form, line 3",
+            ),
+            (
+                Refusal::Uncorrected,
+                "refused 16: what mending leaves is not a code cube",
+            ),
+        ] {
+            assert_eq!(refusal.to_string(), told);
+        }
+    }
+
+    #[test]
+    fn a_line_beyond_32_bits() {
+        let line = 4_294_967_297;
+        assert_eq!(answer(17 + 256 * line), Err(Refusal::Line { line }));
     }
 }

@@ -4,6 +4,7 @@ use std::env;
 use std::process::Command;
 
 use compare::{KINDS, LARGE_SHAPES, SHAPES_AT_THE_LIMITS, Source, twin};
+use jibrufath::text::{from_text, to_text};
 use jibrufath::{
     AirPack, Error, Reception, Shape, default_limit, needs, receive, receive_within, write,
 };
@@ -84,7 +85,8 @@ fn files_stay_within_the_default() {
     }
 }
 
-/// In 200 MB of address space the system has no memory for the largest cubes: `receive` and `write` say so and go on.
+/// In 200 MB of address space the system has no memory for the largest cubes, nor for a long text or its pack: the calls say so and
+/// go on.
 #[test]
 fn no_memory() {
     const CHILD: &str = "JIBRUFATH_SHORT_OF_MEMORY";
@@ -115,4 +117,37 @@ fn short_of_memory() {
         receive(&small).expect("as much").into_file(),
         Some(vec![0x08])
     );
+    short_of_memory_for_texts();
+}
+
+/// A pack of 21 MB, and its text of 62, where less than 16 are left.
+fn short_of_memory_for_texts() {
+    const W: usize = 1024;
+    const PACKETS: usize = 20_000;
+    let shape = Shape::new(3, 3, 3, W);
+    let mut air = no_packet(shape);
+    air[13..].copy_from_slice(&(PACKETS as u32).to_le_bytes());
+    air.resize(17 + PACKETS * (3 + W), 0x00);
+    let text = to_text(&air).expect("memory for a text");
+
+    let taken = all_but(16_000_000);
+    let bytes = text.len();
+    assert_eq!(to_text(&air), Err(Error::Allocation { bytes }));
+    let bytes = air.len();
+    let short = Err(Error::Allocation { bytes });
+    assert_eq!(from_text(text.as_bytes()), short);
+    drop(taken);
+    assert!(from_text(text.as_bytes()) == Ok(air));
+}
+
+/// Takes memory until the system has no piece of so many bytes left.
+fn all_but(bytes: usize) -> Vec<Vec<u8>> {
+    let mut taken = Vec::new();
+    loop {
+        let mut piece: Vec<u8> = Vec::new();
+        if piece.try_reserve_exact(bytes).is_err() {
+            return taken;
+        }
+        taken.push(piece);
+    }
 }

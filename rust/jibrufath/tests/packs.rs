@@ -293,7 +293,7 @@ fn packets_refused() {
         let answer = tried(&what, &Trial::new(pack(SMALL, &[], &packets))).receive;
         let refusal = answer.expect_err(&what);
         assert_eq!(
-            (refusal.number, refusal.packet),
+            (refusal.number, refusal.place),
             (number, Some(index)),
             "{what}"
         );
@@ -499,7 +499,7 @@ fn refusals_with_memory_of_its_own() {
         }
         let refused = refusal(receive(&trial.pack)).expect(kind);
         assert_eq!(refused.number(), expected.number, "{kind}");
-        assert_eq!(refused.packet(), expected.packet, "{kind}");
+        assert_eq!(refused.packet(), expected.place, "{kind}");
     }
 }
 

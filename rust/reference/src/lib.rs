@@ -2,7 +2,8 @@
 //!
 //! It is made to be compared with, so it takes other ways than the library where it can: log tables for
 //! the field, linear equations for encoding and filling small cubes, another order of axes for encoding
-//! large ones, a work list for filling them, a map of the packets that were heard. Clarity comes before speed.
+//! large ones, a work list for filling them, a map of the packets that were heard, texts split into words. Clarity comes
+//! before speed.
 //!
 //! Each operation answers `Err(number)` with the number of document 01's table, and leaves lent memory
 //! as that document says.
@@ -17,6 +18,7 @@ pub mod programs;
 pub mod random;
 pub mod receive;
 pub mod shape;
+pub mod text;
 pub mod write;
 
 pub use encode::{encode, extract, is_code_cube};
@@ -25,6 +27,7 @@ pub use mend::{mend, mend_axis};
 pub use pack::needs;
 pub use receive::{Outcome, Received, Refusal, receive_pack};
 pub use shape::Shape;
+pub use text::{read_text, text_bytes, text_pack_bytes, write_text};
 pub use write::write_pack;
 
 /// Cubes of at most this many cells are encoded and filled by solving the equations of all their lines.

@@ -112,10 +112,7 @@ impl<'a> Rest<'a> {
         let section = self.take(5)?;
         let [l1, l2, l3] = [0, 1, 2].map(|axis| usize::from(section[axis]));
         let shape = Shape::new(l1, l2, l3, number(&section[3..]) as usize);
-        shape.check(None)?;
-        if shape.capacity() < COUNT {
-            return Err(10);
-        }
+        shape.check_room()?;
         Ok(shape)
     }
 

@@ -21,27 +21,27 @@ pub enum Outcome {
     Left { cells: usize },
 }
 
-/// The number of a refusal and, for a packet, its index.
+/// The number of a refusal and the place that it names: with 11 and 12 a packet's index, with 17 a line's number.
 #[derive(Clone, Copy, Debug, PartialEq, Eq)]
 pub struct Refusal {
     pub number: u8,
-    pub packet: Option<u64>,
+    pub place: Option<u64>,
 }
 
 impl From<u8> for Refusal {
     fn from(number: u8) -> Refusal {
         Refusal {
             number,
-            packet: None,
+            place: None,
         }
     }
 }
 
 impl Refusal {
-    fn of_packet(number: u8, index: usize) -> Refusal {
+    pub(crate) fn at(number: u8, place: usize) -> Refusal {
         Refusal {
             number,
-            packet: Some(index as u64),
+            place: Some(place as u64),
         }
     }
 }
@@ -61,7 +61,7 @@ pub fn receive_pack(
     let places = packets.iter().map(|packet| packet.place.map(usize::from));
     let outside = |place: [usize; 3]| (0..3).any(|axis| place[axis] >= shape.lengths[axis]);
     if let Some(index) = places.clone().position(outside) {
-        return Err(Refusal::of_packet(11, index));
+        return Err(Refusal::at(11, index));
     }
     // Missing cells are 00h wherever the paper says what they hold.
     cube.fill(0x00);
@@ -70,7 +70,7 @@ pub fn receive_pack(
     for (index, (place, packet)) in places.zip(&packets).enumerate() {
         let first = heard.entry(shape.cell(place)).or_insert(packet.bytes);
         if *first != packet.bytes {
-            return Err(Refusal::of_packet(12, index));
+            return Err(Refusal::at(12, index));
         }
     }
     for (&cell, bytes) in &heard {
@@ -185,13 +185,13 @@ mod tests {
 
         let mut kept = memory();
         let packets = [at([0; 3], a), at([0, 0, 3], a), at([0; 3], b)];
-        let refused = Err(Refusal::of_packet(11, 1));
+        let refused = Err(Refusal::at(11, 1));
         assert_eq!(kept.receive(&packets), refused);
         assert_eq!((kept.cube[0], kept.flags[0]), (0xAA, 0xBB));
 
         let mut cleared = memory();
         let packets = [at([0; 3], a), at([0; 3], b), at([0; 3], a)];
-        let refused = Err(Refusal::of_packet(12, 1));
+        let refused = Err(Refusal::at(12, 1));
         assert_eq!(cleared.receive(&packets), refused);
         assert_eq!(cleared.cube, [0x00; 162]);
         assert_eq!(cleared.flags, [1; 27]);

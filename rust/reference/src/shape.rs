@@ -59,6 +59,15 @@ impl Shape {
         Ok(())
     }
 
+    /// Refusals 1, 2, 3, and 10 where a data string has no room for the file's length.
+    pub fn check_room(self) -> Result<(), u8> {
+        self.check(None)?;
+        if self.capacity() < COUNT {
+            return Err(10);
+        }
+        Ok(())
+    }
+
     pub fn cells(self) -> usize {
         self.lengths.iter().product()
     }
