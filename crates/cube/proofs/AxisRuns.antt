@@ -8,14 +8,15 @@ use native.Mathlib.Decide.{decLt}
 use native.Mathlib.Omega.{arith}
 use lib.Arith.{digits-div, digits-mod}
 use lib.ListN.{getD}
-use Rattle.span.proofs.Stretches.{stretch-end}
+use Rattle.span.proofs.Stretches.{stretch-end, factor-below}
 use Rattle.shape.specs.declared.Shape.{Shape}
 use Rattle.shape.specs.declared.Line.{Line}
 use Rattle.answer.specs.declared.Refusal.{Refusal}
 use Rattle.answer.specs.Values.{passes, checked, refusal}
 use Rattle.answer.proofs.Values.{refusal-gives}
 use Rattle.shape.specs.Shapes.{Valid, cells, strideOf, lengthOf, linesOf, firstOf, lineOf}
-use Rattle.cube.specs.Cube.{layer, layerLine}
+use Rattle.data.specs.Data.{layer}
+use Rattle.cube.specs.Cube.{layerLine}
 use Rattle.shape.proofs.Geometry.{outerOf, linesOf-outer, cells-outer, strideOf-pos, lengthOf-low, lengthOf-high, line-of, line-passed}
 use Rattle.line.specs.declared.Run.{Run}
 use Rattle.line.specs.Run.{lineAt, Inside}
@@ -49,9 +50,6 @@ lines-ended sh axis m f v low high e =
 
 pub layer-below : (q s t w : ℕ) → q < s → t < w → q * w + t < s * w
 layer-below q s t w lq lt = omega (arith, stretch-end q s w lq)
-
-pub factor-below : (a b s : ℕ) → a * s < b * s → a < b
-factor-below a b s l = elim (decLt a b) [ yes m ↦ m | no n ↦ let h : b ≤ a = omega arith in absurd (omega (arith, mul-le-mul-right s h)) ]
 
 -- the bytes of a block's run lie inside the block
 pub run-end : (f s n w i : ℕ) → i < n → f * w + s * w * i + s * w ≤ (f + s * n) * w

@@ -1,34 +1,12 @@
--- Byte geometry: rows, planes and cells one after the other, and the sizes of a valid shape.
+-- Byte geometry: rows, planes and cells one after the other.
 use mathlib.Core.Path.{_≡_}
-use Prim.Native.Nat.{ℕ, _+_, _*_, _-_, _≤_, _<_}
-use native.Mathlib.Nat.{mul-le-mul, mul-assoc, mul-comm, mul-left-comm, mul-add, add-assoc, add-comm, add-left-comm}
+use Prim.Native.Nat.{ℕ, _+_, _*_, _≤_, _<_}
+use native.Mathlib.Nat.{mul-assoc, mul-comm, mul-left-comm, mul-add, add-assoc, add-comm, add-left-comm}
 use native.Mathlib.Omega.{arith}
 use Rattle.span.proofs.Stretches.{stretch-end}
 use Rattle.shape.specs.declared.Shape.{Shape}
-use Rattle.shape.specs.Shapes.{Valid, cells}
-use Rattle.cube.specs.Inner.Encoder.{spot, planeBytes, partBytes}
-
--- the sizes of rows and planes fit a word
-pub record Small (sh : Shape) : Type 0 where
-  pub row : sh .l1 * sh .w ≤ 261120
-  pub plane-cells : sh .l1 * sh .l2 ≤ 65025
-  pub plane : planeBytes sh ≤ 66585600
-  pub data-row : (sh .l1 - 2) * sh .w ≤ 261120
-  pub data-plane-cells : (sh .l1 - 2) * (sh .l2 - 2) ≤ 65025
-  pub data-plane : partBytes sh ≤ 66585600
-
-pub small : (sh : Shape) → Valid sh → Small sh
-small sh v =
-    let a : sh .l1 - 2 ≤ 255 = omega arith in
-    let b : sh .l2 - 2 ≤ 255 = omega arith in
-    record {
-      row = mul-le-mul (v .l1-high) (v .w-high);
-      plane-cells = mul-le-mul (v .l1-high) (v .l2-high);
-      plane = mul-le-mul (mul-le-mul (v .l1-high) (v .l2-high)) (v .w-high);
-      data-row = mul-le-mul a (v .w-high);
-      data-plane-cells = mul-le-mul a b;
-      data-plane = mul-le-mul (mul-le-mul a b) (v .w-high);
-    }
+use Rattle.shape.specs.Shapes.{cells}
+use Rattle.cube.specs.Inner.Encoder.{spot, planeBytes}
 
 -- a plane is n rows of m cells
 pub rows-in-plane : (m n w : ℕ) → n * (m * w) ≡ m * n * w

@@ -14,7 +14,7 @@ use Rattle.cube.specs.declared.CubeCheck.the-variants.{Code, Refused}
 use Rattle.cube.specs.Cube.{CodeCube}
 use Rattle.span.specs.Decision.{Decides}
 use Rattle.cube.specs.Calls.{checkValue, CheckOutcome, check-refused, check-done}
-use Rattle.cube.proofs.Checks.{cube-done-checked}
+use Rattle.data.proofs.Checks.{cube-done-checked}
 use Rattle.cube.proofs.Outcomes.{check-decides}
 
 module _ (r : ℕ) (sh : Shape) (xs : List ℕ) (x : CubeCheck) (o : CheckOutcome r sh xs (checkValue x)) where

@@ -15,7 +15,8 @@ use Rattle.line.proofs.Codeword.{codeword-cong}
 use Rattle.line.proofs.Runs.{encoded-placed, encoded-codewords}
 use Rattle.shape.specs.declared.Shape.{Shape}
 use Rattle.shape.specs.Shapes.{Valid, cells, capacity, cell, IsLine, along, axis1, axis2, axis3}
-use Rattle.cube.specs.Cube.{layer, layerLine, CodeCube, HoldsData}
+use Rattle.data.specs.Data.{layer, HoldsData}
+use Rattle.cube.specs.Cube.{layerLine, CodeCube}
 use Rattle.cube.specs.Inner.Encoder.{spot, planeBytes, RowsEncoded, PlanesCoded}
 use Rattle.shape.proofs.Geometry.{axis1-cell, axis2-cell, axis3-cell}
 use Rattle.cube.proofs.Bytes.{planes-in-cube, cell-byte, planes-fill}

@@ -13,10 +13,12 @@ use Rattle.line.proofs.Erasure.{parity-off, parity-right, parity-across, parity
 use Rattle.shape.specs.declared.Shape.{Shape}
 use Rattle.shape.specs.Shapes.{Valid, cells, capacity, cell, IsLine, along, axis1, axis2, axis3}
 use Rattle.shape.proofs.Geometry.{third-lt, axis1-cell, axis2-cell, axis3-cell}
-use Rattle.cube.specs.Cube.{layer, layerLine, CodeCube, HoldsData}
+use Rattle.data.specs.Data.{layer, HoldsData}
+use Rattle.cube.specs.Cube.{layerLine, CodeCube}
 use Rattle.cube.specs.Encoded.{ofLayers, along1, along2, along3, layerEncoded, dataByte, encoded}
 use Rattle.cube.specs.Theorems.{OneCodeCube}
-use Rattle.cube.proofs.Tables.{tabulate-lt, length-ofLayers, layer-ofLayers}
+use Rattle.data.proofs.Tables.{tabulate-lt}
+use Rattle.cube.proofs.Tables.{length-ofLayers, layer-ofLayers}
 use Rattle.cube.proofs.Unique.{code-cube-unique}
 
 -- ---- a layer

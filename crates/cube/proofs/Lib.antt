@@ -1,11 +1,9 @@
 -- Why the crate `cube` meets its contracts: that exactly one code cube has given data, and that the encoder writes it.
-pub mod Checks
 pub mod Unique
 pub mod Tables
 pub mod Existence
 pub mod Axes
-pub mod HeldData
-pub mod Reading
+pub mod RoundTrip
 pub mod AxisRuns
 pub mod RightLines
 pub mod Bytes

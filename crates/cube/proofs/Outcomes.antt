@@ -1,32 +1,28 @@
 -- The two ways out of each public call, refused with nothing changed and done; what a caller learns from an outcome; and that the inputs determine
 -- the answer and every lent byte.
 use mathlib.Core.Path.{_≡_, refl, sym, ap, _∙_}
-use mathlib.Core.Bool.{Bool, true, false, false≢true}
+use mathlib.Core.Bool.{Bool}
 use mathlib.Core.List.{List}
-use mathlib.Core.Logic.{_≢_}
-use Prim.Native.Nat.{ℕ, _≤_, _<_}
+use Prim.Native.Nat.{ℕ, _<_}
 use lib.ListN.{length, getD}
 use Rattle.answer.specs.declared.Refusal.{Refusal}
 use Rattle.answer.specs.declared.Answer.{Answer}
 use Rattle.answer.specs.declared.Answer.the-variants.{Refused}
-use Rattle.answer.specs.Values.{Value, gives, refused, Checked, passes, fails, checked, refusal, answerValue}
-use Rattle.answer.proofs.Values.{gives-injective, fails-injective, passes-fails, refusal-gives, checked-fails, answer-failed}
+use Rattle.answer.specs.Values.{Value, gives, refused, passes, checked, answerValue}
+use Rattle.answer.proofs.Values.{fails-injective, passes-fails, answer-failed}
 use Rattle.field.specs.Field.{Primitive}
-use Rattle.span.specs.Span.{Copied}
 use Rattle.shape.specs.declared.Shape.{Shape}
-use Rattle.shape.specs.Shapes.{capacity}
 use Rattle.cube.specs.declared.CubeCheck.the-variants.{Refused as NotChecked}
-use Rattle.cube.specs.declared.DataCheck.{DataCheck}
-use Rattle.cube.specs.declared.DataCheck.the-variants.{Zero, Refused as NotRead}
-use Rattle.cube.specs.Cube.{CodeCube, HoldsData, dataOf, heldData}
+use Rattle.data.specs.Data.{HoldsData}
+use Rattle.cube.specs.Cube.{CodeCube}
 use Rattle.cube.specs.Encoded.{encoded}
 use Rattle.cube.specs.Theorems.{OnlyCodeCube, OneCodeCube}
 use Rattle.span.specs.Decision.{Decides}
-use Rattle.cube.specs.Calls.{slicesChecked, cubeChecked, readChecked, EncodeOutcome, encode-refused, encode-done, ExtractOutcome, extract-refused, extract-done, ReadOutcome, read-refused, read-done, checkValue, CheckOutcome, check-refused, check-done, zeroValue, ZeroOutcome, zero-refused, zero-done}
-use Rattle.cube.proofs.Checks.{checked-done}
+use Rattle.span.proofs.Decision.{decides-same}
+use Rattle.data.specs.Calls.{slicesChecked, cubeChecked}
+use Rattle.cube.specs.Calls.{EncodeOutcome, encode-refused, encode-done, checkValue, CheckOutcome, check-refused, check-done}
+use Rattle.data.proofs.Checks.{checked-done}
 use Rattle.cube.proofs.Existence.{one-code-cube}
-use Rattle.cube.proofs.HeldData.{heldData-holds}
-use Rattle.cube.proofs.Reading.{copied-determined, some-nonzero}
 
 -- ---- what the calls leave
 
@@ -38,34 +34,12 @@ module _ (sh : Shape) (answer : Answer) where
       let (n, failed, value) = answer-failed {B = Unit} answer _ f e p in
       rw (p, value) (encode-refused n failed refl)
 
-  pub extract-unfit : (f : Refusal) (xs ds : List ℕ) → answerValue answer ≡ checked (slicesChecked sh (length ds) (length xs)) → answer ≡ Refused f
-      → ExtractOutcome sh xs ds ds (answerValue answer)
-  unfolding answerValue
-  extract-unfit f xs ds e p =
-      let (n, failed, value) = answer-failed {B = Unit} answer _ f e p in
-      rw (p, value) (extract-refused n failed refl)
-
-  pub read-unfit : (f : Refusal) (xs : List ℕ) (from to n : ℕ) (ds : List ℕ)
-      → answerValue answer ≡ checked (readChecked sh (length xs) (length ds) from to n) → answer ≡ Refused f
-      → ReadOutcome sh xs from to n ds ds (answerValue answer)
-  unfolding answerValue
-  read-unfit f xs from to n ds e p =
-      let (k, failed, value) = answer-failed {B = Unit} answer _ f e p in
-      rw (p, value) (read-refused k failed refl)
-
   pub check-unfit : (r : ℕ) (f : Refusal) (xs : List ℕ) → answerValue answer ≡ checked (cubeChecked sh (length xs)) → answer ≡ Refused f
       → CheckOutcome r sh xs (checkValue (NotChecked f))
   unfolding checkValue
   check-unfit r f xs e p =
       let (n, failed, value) = answer-failed {B = Bool} answer _ f e p in
       rw value (check-refused n failed)
-
-pub zero-unfit : (sh : Shape) (f : Refusal) (xs : List ℕ) (from : ℕ) → refusal {A = Unit} f ≡ checked (cubeChecked sh (length xs))
-    → ZeroOutcome sh xs from (zeroValue (NotRead f))
-unfolding zeroValue
-zero-unfit sh f xs from e =
-    let (n, failed, value) = checked-fails {B = Bool} (cubeChecked sh (length xs)) f e in
-    rw value (zero-refused n failed)
 
 -- ---- what a caller learns: a call whose checks pass is done
 
@@ -89,49 +63,10 @@ pub encode-works : {r : ℕ} {sh : Shape} {ds before after : List ℕ} {v : Valu
 encode-works e (encode-refused n f kept) = absurd (passes-fails tt n (sym e ∙ f))
 encode-works e (encode-done checks same) = (refl, same)
 
-pub extract-works : {sh : Shape} {xs before after : List ℕ} {v : Value Unit} → slicesChecked sh (length before) (length xs) ≡ passes tt
-    → ExtractOutcome sh xs before after v → (v ≡ gives tt) × (after ≡ heldData sh xs)
-extract-works e (extract-refused n f kept) = absurd (passes-fails tt n (sym e ∙ f))
-extract-works e (extract-done checks same) = (refl, same)
-
-pub extract-holds : (sh : Shape) (xs before after : List ℕ) → ExtractOutcome sh xs before after (gives tt) → HoldsData sh xs after
-extract-holds sh xs before after (extract-done checks same) = rw same (heldData-holds sh xs)
-
-pub read-works : {sh : Shape} {xs : List ℕ} {from to n : ℕ} {before after : List ℕ} {v : Value Unit}
-    → readChecked sh (length xs) (length before) from to n ≡ passes tt → ReadOutcome sh xs from to n before after v
-    → (v ≡ gives tt) × Copied (heldData sh xs) from before to n after
-read-works e (read-refused n f kept) = absurd (passes-fails tt n (sym e ∙ f))
-read-works e (read-done checks copied) = (refl, copied)
-
-zero-given : {sh : Shape} {xs : List ℕ} {from : ℕ} {v : Value Bool} → cubeChecked sh (length xs) ≡ passes tt → ZeroOutcome sh xs from v
-    → (b : Bool) × (v ≡ gives b) × Decides ((q : ℕ) → from ≤ q → q < capacity sh → dataOf sh xs q ≡ 0) b
-zero-given e (zero-refused n f) = absurd (passes-fails tt n (sym e ∙ f))
-zero-given e (zero-done b checks d) = (b, refl, d)
-
-zero-is : (r : DataCheck) (b : Bool) → zeroValue r ≡ gives b → r ≡ Zero b
-unfolding zeroValue
-zero-is (Zero a) b e = ap Zero (gives-injective a b e)
-zero-is (NotRead f) b e = absurd (refusal-gives f b e)
-
-pub zero-works : {sh : Shape} {xs : List ℕ} {from : ℕ} (answer : DataCheck) → cubeChecked sh (length xs) ≡ passes tt
-    → ZeroOutcome sh xs from (zeroValue answer)
-    → (b : Bool) × (answer ≡ Zero b) × Decides ((q : ℕ) → from ≤ q → q < capacity sh → dataOf sh xs q ≡ 0) b
-zero-works answer e o = let (b, value, d) = zero-given e o in (b, zero-is answer b value, d)
-
--- an answer that is not true names a byte of the data string that is not 00h
-pub zero-nonzero : (sh : Shape) (xs : List ℕ) (from : ℕ) (b : Bool) → Decides ((q : ℕ) → from ≤ q → q < capacity sh → dataOf sh xs q ≡ 0) b
-    → b ≡ false → (q : ℕ) × (from ≤ q) × (q < capacity sh) × (dataOf sh xs q ≢ 0)
-zero-nonzero sh xs from b d e = some-nonzero (dataOf sh xs) from (capacity sh) (λ all. false≢true (sym e ∙ d .yes-when all))
-
 pub check-decides : (r : ℕ) (sh : Shape) (xs : List ℕ) (b : Bool) → CheckOutcome r sh xs (gives b) → Decides (CodeCube r sh xs) b
 check-decides r sh xs b (check-done _ checks d) = d
 
 -- ---- the inputs determine the answer and every lent byte
-
-decided-same : (P : Type 0) (a b : Bool) → Decides P a → Decides P b → a ≡ b
-decided-same P true b d e = sym (e .yes-when (d .yes-then refl))
-decided-same P false true d e = d .yes-when (e .yes-then refl)
-decided-same P false false d e = refl
 
 pub encode-determined : {r : ℕ} {sh : Shape} {ds before after after′ : List ℕ} {v v′ : Value Unit}
     → EncodeOutcome r sh ds before after v → EncodeOutcome r sh ds before after′ v′ → (v ≡ v′) × (after ≡ after′)
@@ -140,28 +75,8 @@ encode-determined (encode-refused n e kept) (encode-done f same) = absurd (passe
 encode-determined (encode-done e same) (encode-refused n f kept) = absurd (passes-fails tt n (sym e ∙ f))
 encode-determined (encode-done e same) (encode-done f same′) = (refl, same ∙ sym same′)
 
-pub extract-determined : {sh : Shape} {xs before after after′ : List ℕ} {v v′ : Value Unit}
-    → ExtractOutcome sh xs before after v → ExtractOutcome sh xs before after′ v′ → (v ≡ v′) × (after ≡ after′)
-extract-determined (extract-refused n e kept) (extract-refused m f kept′) = (ap refused (fails-injective n m (sym e ∙ f)), kept ∙ sym kept′)
-extract-determined (extract-refused n e kept) (extract-done f same) = absurd (passes-fails tt n (sym f ∙ e))
-extract-determined (extract-done e same) (extract-refused n f kept) = absurd (passes-fails tt n (sym e ∙ f))
-extract-determined (extract-done e same) (extract-done f same′) = (refl, same ∙ sym same′)
-
-pub read-determined : {sh : Shape} {xs : List ℕ} {from to n : ℕ} {before after after′ : List ℕ} {v v′ : Value Unit}
-    → ReadOutcome sh xs from to n before after v → ReadOutcome sh xs from to n before after′ v′ → (v ≡ v′) × (after ≡ after′)
-read-determined (read-refused n e kept) (read-refused m f kept′) = (ap refused (fails-injective n m (sym e ∙ f)), kept ∙ sym kept′)
-read-determined (read-refused n e kept) (read-done f copied) = absurd (passes-fails tt n (sym f ∙ e))
-read-determined (read-done e copied) (read-refused n f kept) = absurd (passes-fails tt n (sym e ∙ f))
-read-determined (read-done e copied) (read-done f copied′) = (refl, copied-determined _ _ _ _ _ _ _ copied copied′)
-
 pub check-determined : {r : ℕ} {sh : Shape} {xs : List ℕ} {v v′ : Value Bool} → CheckOutcome r sh xs v → CheckOutcome r sh xs v′ → v ≡ v′
 check-determined (check-refused n e) (check-refused m f) = ap refused (fails-injective n m (sym e ∙ f))
 check-determined (check-refused n e) (check-done b f d) = absurd (passes-fails tt n (sym f ∙ e))
 check-determined (check-done b e d) (check-refused n f) = absurd (passes-fails tt n (sym e ∙ f))
-check-determined (check-done a e d) (check-done b f d′) = ap gives (decided-same _ a b d d′)
-
-pub zero-determined : {sh : Shape} {xs : List ℕ} {from : ℕ} {v v′ : Value Bool} → ZeroOutcome sh xs from v → ZeroOutcome sh xs from v′ → v ≡ v′
-zero-determined (zero-refused n e) (zero-refused m f) = ap refused (fails-injective n m (sym e ∙ f))
-zero-determined (zero-refused n e) (zero-done b f d) = absurd (passes-fails tt n (sym f ∙ e))
-zero-determined (zero-done b e d) (zero-refused n f) = absurd (passes-fails tt n (sym e ∙ f))
-zero-determined (zero-done a e d) (zero-done b f d′) = ap gives (decided-same _ a b d d′)
+check-determined (check-done a e d) (check-done b f d′) = ap gives (decides-same a b d d′)

@@ -6,14 +6,14 @@ use native.Mathlib.Nat.{mod-lt, mod-one, mod-self, zero-mod, mul-mod-left, add-m
 use native.Mathlib.Decide.{decLt}
 use native.Mathlib.Omega.{arith}
 use lib.ListN.{length, getD}
-use Rattle.span.proofs.Stretches.{stretch-end}
+use Rattle.span.proofs.Stretches.{stretch-end, factor-below}
 use Rattle.shape.specs.declared.Shape.{Shape}
 use Rattle.shape.specs.declared.Line.{Line}
 use Rattle.shape.specs.Shapes.{Valid, cells, strideOf, linesOf}
 use Rattle.cube.specs.Cube.{CodeCube}
 use Rattle.cube.specs.Inner.Checker.{Blocks, LinesRight}
 use Rattle.shape.proofs.Geometry.{axis-cases, line-found, line-every}
-use Rattle.cube.proofs.AxisRuns.{Begins, runFrom, lineBeside, lineAt-run, beside-is, layer-below, factor-below}
+use Rattle.cube.proofs.AxisRuns.{Begins, runFrom, lineBeside, lineAt-run, beside-is, layer-below}
 use Rattle.line.specs.Line.{Codeword}
 use Rattle.line.specs.Run.{lineAt}
 use Rattle.line.proofs.Codeword.{codeword-cong}

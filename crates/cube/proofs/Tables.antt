@@ -1,35 +1,15 @@
--- Lists made from functions: their lengths and places, and the cube of given layers.
-use mathlib.Core.Path.{_≡_, refl, ap, ap₂, _∙_}
-use Prim.Native.Nat.{ℕ, zero, suc, _+_, _*_, _/_, _%_, _<_}
+-- The cube of given layers: its length and its places.
+use mathlib.Core.Path.{_≡_, ap, ap₂, _∙_}
+use Prim.Native.Nat.{ℕ, _+_, _*_, _/_, _%_, _<_}
 use native.Mathlib.Nat.{mul-comm}
-use native.Mathlib.Omega.{arith}
 use lib.Arith.{digits-lt, digits-div, digits-mod}
-use lib.ListN.{length, getD}
+use lib.ListN.{length}
 use Rattle.shape.specs.declared.Shape.{Shape}
 use Rattle.shape.specs.Shapes.{cells, cell}
 use Rattle.shape.proofs.Geometry.{cell-lt-cells, first-coordinate, second-coordinate, third-coordinate}
-use Rattle.cube.specs.Cube.{layer}
-use Rattle.cube.specs.Tables.{tabulate}
+use Rattle.data.specs.Data.{layer}
+use Rattle.data.proofs.Tables.{length-tabulate, getD-tabulate}
 use Rattle.cube.specs.Encoded.{ofLayers}
-
-module _ {A : Type 0} where
-  pub length-tabulate : (n : ℕ) (f : ℕ → A) → length (tabulate n f) ≡ n
-  unfolding tabulate
-  length-tabulate zero f = refl
-  length-tabulate (suc n) f = ap suc (length-tabulate n (λ i. f (suc i)))
-
-  pub getD-tabulate : (n : ℕ) (f : ℕ → A) (d : A) (i : ℕ) → i < n → getD (tabulate n f) i d ≡ f i
-  unfolding tabulate
-  getD-tabulate zero f d i l = absurd (omega arith)
-  getD-tabulate (suc n) f d zero l = refl
-  getD-tabulate (suc n) f d (suc i) l = getD-tabulate n (λ k. f (suc k)) d i (omega arith)
-
--- bytes everywhere, past the end too
-pub tabulate-lt : (n : ℕ) (f : ℕ → ℕ) → ((i : ℕ) → i < n → f i < 256) → (i : ℕ) → getD (tabulate n f) i 0 < 256
-unfolding tabulate
-tabulate-lt zero f h i = omega arith
-tabulate-lt (suc n) f h zero = h 0 (omega arith)
-tabulate-lt (suc n) f h (suc i) = tabulate-lt n (λ k. f (suc k)) (λ k l. h (suc k) (omega arith)) i
 
 module _ (sh : Shape) (f : ℕ → ℕ → ℕ → ℕ → ℕ) where
   pub length-ofLayers : length (ofLayers sh f) ≡ sh .w * cells sh

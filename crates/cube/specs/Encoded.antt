@@ -5,7 +5,7 @@ use lib.ListN.{getD}
 use Rattle.shape.specs.declared.Shape.{Shape}
 use Rattle.shape.specs.Shapes.{cells}
 use Rattle.line.specs.Line.{withParity}
-use Rattle.cube.specs.Tables.{tabulate}
+use Rattle.data.specs.Tables.{tabulate}
 
 -- the cube whose layer w has the byte f w a b c at cell (a,b,c)
 unfoldable pub ofLayers : Shape → (ℕ → ℕ → ℕ → ℕ → ℕ) → List ℕ

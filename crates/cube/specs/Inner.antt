@@ -1,4 +1,3 @@
 -- What the crate's own functions promise each other.
 pub mod Checker
 pub mod Encoder
-pub mod Reader

@@ -6,7 +6,8 @@ use lib.ListN.{length, getD}
 use Rattle.field.specs.Field.{Primitive}
 use Rattle.shape.specs.declared.Shape.{Shape}
 use Rattle.shape.specs.Shapes.{Valid, capacity}
-use Rattle.cube.specs.Cube.{CodeCube, HoldsData, heldData}
+use Rattle.data.specs.Data.{HoldsData, heldData}
+use Rattle.cube.specs.Cube.{CodeCube}
 use Rattle.cube.specs.Encoded.{encoded}
 
 -- xs is the code cube that has the data string ds, and no other cube is
@@ -21,13 +22,7 @@ OneCodeCube =
     (r : ℕ) → Primitive r → (sh : Shape) → Valid sh → (ds : List ℕ) → length ds ≡ capacity sh →
     ((p : ℕ) → getD ds p 0 < 256) → OnlyCodeCube r sh ds (encoded r sh ds)
 
--- "Data cells in cell order, W bytes each, hold the data string": every cube holds one, and one only.
-unfoldable pub OneDataString : Type 0
-OneDataString =
-    (sh : Shape) → Valid sh → (xs : List ℕ) →
-    HoldsData sh xs (heldData sh xs) × ((ds : List ℕ) → HoldsData sh xs ds → ds ≡ heldData sh xs)
-
--- So encoding and extracting undo each other.
+-- A cube holds one data string (`OneDataString`), so encoding and extracting undo each other.
 unfoldable pub RoundTrip : Type 0
 RoundTrip =
     (r : ℕ) → Primitive r → (sh : Shape) → Valid sh →

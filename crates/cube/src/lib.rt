@@ -1,7 +1,6 @@
-// The packet cube, a product code of three axes with two parity packets on every line: its encoder, its data string, its check.
+// The packet cube, a product code of three axes with two parity packets on every line: its encoder and its check.
 mod checker;
 mod encoder;
-mod reader;
 
 use answer::Answer;
 use answer::Fault;
@@ -11,7 +10,8 @@ use shape::Shape;
 ghost use mathlib.Core.Path.{_≡_};
 ghost use Rattle.answer.specs.Values.{answerValue, checked};
 ghost use Rattle.field.specs.Field.{reduction};
-ghost use Rattle.cube.specs.Calls.{slicesChecked, cubeChecked, readChecked, checkValue, zeroValue, EncodeOutcome, ExtractOutcome, ReadOutcome, CheckOutcome, ZeroOutcome};
+ghost use Rattle.data.specs.Calls.{cubeChecked};
+ghost use Rattle.cube.specs.Calls.{checkValue, EncodeOutcome, CheckOutcome};
 
 // What the check of a cube answers: whether it is a code cube.
 pub enum CubeCheck {
@@ -19,62 +19,16 @@ pub enum CubeCheck {
     Refused(Refusal),
 }
 
-// What a test of the data string answers: whether it is 00h.
-pub enum DataCheck {
-    Zero(bool),
-    Refused(Refusal),
-}
-
 // Encodes a data string: leaves in `cube` the one code cube that has it.
 pub fn encode(data: &[u8], cube: &mut [u8], sh: Shape) -> Answer
     ensures { λ r. ⌜ EncodeOutcome reduction sh (now («data» .entry)) (now (cube .entry)) (now (cube .exit)) (answerValue r) ⌝ }
 {
-    let answer = slices_fit(sh, data.len(), cube.len());
+    let answer = data::slices_fit(sh, data.len(), cube.len());
     let Answer::Done = answer else {
         return answer;
     };
     encoder::encode_cube(data, cube, field::reduction(), sh);
     Answer::Done
-}
-
-// Takes the data string out of a cube.
-pub fn extract(cube: &[u8], data: &mut [u8], sh: Shape) -> Answer
-    ensures { λ r. ⌜ ExtractOutcome sh (now (cube .entry)) (now («data» .entry)) (now («data» .exit)) (answerValue r) ⌝ }
-{
-    let answer = slices_fit(sh, data.len(), cube.len());
-    let Answer::Done = answer else {
-        return answer;
-    };
-    reader::copy_data(cube, data, sh, 0, 0, data.len());
-    Answer::Done
-}
-
-// Copies n bytes of the data string from byte `from` on to `out` from `to` on. Where they are not n bytes of the data string, or `out` has no
-// room for them there, the refusal is 4 too.
-pub fn read_data(cube: &[u8], out: &mut [u8], sh: Shape, from: usize, to: usize, n: usize) -> Answer
-    ensures { λ r. ⌜ ReadOutcome sh (now (cube .entry)) from to n (now (out .entry)) (now (out .exit)) (answerValue r) ⌝ }
-{
-    let answer = spans_fit(sh, cube.len(), out.len(), from, to, n);
-    let Answer::Done = answer else {
-        return answer;
-    };
-    reader::copy_data(cube, out, sh, from, to, n);
-    Answer::Done
-}
-
-// Whether the data string is 00h from byte `from` on.
-pub fn is_data_zero(cube: &[u8], sh: Shape, from: usize) -> DataCheck
-    ensures { λ r. ⌜ ZeroOutcome sh (now (cube .entry)) from (zeroValue r) ⌝ }
-{
-    match shape::measure(sh) {
-        Measured::Refused(f) => DataCheck::Refused(f),
-        Measured::Fits(z) => {
-            if cube.len() != z.bytes {
-                return DataCheck::Refused(Refusal::Plain(Fault::SliceLength));
-            }
-            DataCheck::Zero(reader::zero_from(cube, sh, from, z.capacity))
-        }
-    }
 }
 
 // Whether the bytes are a code cube of the shape.
@@ -84,22 +38,6 @@ pub fn is_code_cube(cube: &[u8], sh: Shape) -> CubeCheck
     match cube_fits(sh, cube.len()) {
         Answer::Refused(f) => CubeCheck::Refused(f),
         Answer::Done => CubeCheck::Code(checker::all_right(cube, field::reduction(), sh)),
-    }
-}
-
-// The checks 1 to 4 of a call that is lent a data string and a cube.
-fn slices_fit(sh: Shape, capacity: usize, bytes: usize) -> Answer
-    ensures { λ r. ⌜ answerValue r ≡ checked (slicesChecked sh capacity bytes) ⌝ }
-{
-    match shape::measure(sh) {
-        Measured::Refused(f) => Answer::Refused(f),
-        Measured::Fits(z) => {
-            if capacity == z.capacity && bytes == z.bytes {
-                Answer::Done
-            } else {
-                Answer::Refused(Refusal::Plain(Fault::SliceLength))
-            }
-        }
     }
 }
 
@@ -115,27 +53,6 @@ fn cube_fits(sh: Shape, bytes: usize) -> Answer
             } else {
                 Answer::Refused(Refusal::Plain(Fault::SliceLength))
             }
-        }
-    }
-}
-
-// The checks of a call that reads n bytes of the data string from `from` on into `room` bytes from `to` on.
-fn spans_fit(sh: Shape, bytes: usize, room: usize, from: usize, to: usize, n: usize) -> Answer
-    ensures { λ r. ⌜ answerValue r ≡ checked (readChecked sh bytes room from to n) ⌝ }
-{
-    match shape::measure(sh) {
-        Measured::Refused(f) => Answer::Refused(f),
-        Measured::Fits(z) => {
-            if bytes != z.bytes {
-                return Answer::Refused(Refusal::Plain(Fault::SliceLength));
-            }
-            if !reader::inside(z.capacity, from, n) {
-                return Answer::Refused(Refusal::Plain(Fault::SliceLength));
-            }
-            if !reader::inside(room, to, n) {
-                return Answer::Refused(Refusal::Plain(Fault::SliceLength));
-            }
-            Answer::Done
         }
     }
 }

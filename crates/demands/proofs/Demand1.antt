@@ -9,7 +9,8 @@ use Rattle.answer.specs.Values.{Value, refused, Checked, passes, fails, checked
 use Rattle.field.specs.Field.{reduction}
 use Rattle.shape.specs.declared.Shape.{Shape}
 use Rattle.shape.specs.Shapes.{shapeChecked, lineOf}
-use Rattle.cube.specs.Calls.{EncodeOutcome, encode-refused, encode-done, ExtractOutcome, extract-refused, extract-done, ReadOutcome, read-refused, read-done, ZeroOutcome, zero-refused, zero-done, CheckOutcome, check-refused, check-done}
+use Rattle.data.specs.Calls.{ExtractOutcome, extract-refused, extract-done, ReadOutcome, read-refused, read-done, ZeroOutcome, zero-refused, zero-done}
+use Rattle.cube.specs.Calls.{EncodeOutcome, encode-refused, encode-done, CheckOutcome, check-refused, check-done}
 use Rattle.fill.specs.Fill.{CellsLeft, FillOutcome, fill-refused, fill-done, fill-contradiction}
 use Rattle.mend.specs.Mend.{MendOutcome, mend-refused, mend-done, mend-uncorrected, AxisOutcome, axis-refused, axis-done}
 use Rattle.pack.specs.Reading.{headerOf, jobOf, airOf}

@@ -16,7 +16,7 @@ use Rattle.shape.specs.Shapes.{Valid, cells, capacity, IsLine}
 use Rattle.shape.specs.Flags.{missing}
 use Rattle.cube.specs.Calls.{EncodeOutcome, encode-refused, encode-done}
 use Rattle.cube.specs.Theorems.{OnlyCodeCube, OneCodeCube}
-use Rattle.cube.proofs.Checks.{done-checked}
+use Rattle.data.proofs.Checks.{done-checked}
 use Rattle.cube.proofs.Existence.{one-code-cube}
 use Rattle.stopping.specs.Stopping.{number, Largest}
 use Rattle.stopping.proofs.Number.{number-cong}

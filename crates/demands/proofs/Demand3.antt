@@ -18,8 +18,9 @@ use Rattle.shape.specs.declared.Shape.{Shape}
 use Rattle.shape.specs.Shapes.{Valid, cells, capacity, sizes, IsLine}
 use Rattle.shape.specs.Flags.{missing}
 use Rattle.shape.proofs.Valid.{both-true}
-use Rattle.cube.specs.Cube.{layer, CodeCube, HoldsData}
-use Rattle.cube.proofs.HeldData.{heldData-only}
+use Rattle.data.specs.Data.{layer, HoldsData}
+use Rattle.cube.specs.Cube.{CodeCube}
+use Rattle.data.proofs.HeldData.{heldData-only}
 use Rattle.stopping.specs.Stopping.{number, Largest}
 use Rattle.stopping.proofs.Number.{not-true-false, number-none, number-pos}
 use Rattle.stopping.proofs.Stopping.{largest-missing, largest-size}

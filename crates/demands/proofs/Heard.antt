@@ -9,7 +9,7 @@ use lib.Seq.{getD-take, getD-drop}
 use Rattle.shape.specs.declared.Shape.{Shape}
 use Rattle.shape.specs.Shapes.{Valid, cells}
 use Rattle.shape.proofs.Geometry.{cell-coordinates, third-lt}
-use Rattle.cube.specs.Cube.{layer}
+use Rattle.data.specs.Data.{layer}
 use Rattle.pack.specs.declared.Section.{Section}
 use Rattle.pack.specs.Packs.{Packet, airPack, packetOf}
 use Rattle.pack.specs.Packets.{packetNo, source, sourceOf, InRange}

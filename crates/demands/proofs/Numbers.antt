@@ -11,7 +11,7 @@ use Rattle.shape.specs.declared.Shape.{Shape}
 use Rattle.shape.specs.declared.Sizes.{Sizes}
 use Rattle.shape.specs.Shapes.{both, shapeChecked, lineIn, lineOf}
 use Rattle.shape.proofs.Valid.{both-parts}
-use Rattle.cube.specs.Calls.{slicesChecked, cubeChecked, readChecked}
+use Rattle.data.specs.Calls.{slicesChecked, cubeChecked, readChecked}
 use Rattle.fill.specs.Fill.{flagsChecked}
 use Rattle.mend.specs.Mend.{axisChecked, mendChecked, wholeChecked}
 use Rattle.pack.specs.Packs.{airSize, packSize}

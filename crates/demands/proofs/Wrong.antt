@@ -16,7 +16,8 @@ use Rattle.shape.specs.declared.Shape.{Shape}
 use Rattle.shape.specs.Shapes.{Valid, cells, capacity, cell, IsLine, along, axis1}
 use Rattle.shape.proofs.Geometry.{cell-coordinates}
 use Rattle.line.specs.Line.{syndrome0}
-use Rattle.cube.specs.Cube.{layer, layerLine}
+use Rattle.data.specs.Data.{layer}
+use Rattle.cube.specs.Cube.{layerLine}
 use Rattle.cube.specs.Encoded.{encoded}
 use Rattle.stopping.specs.Stopping.{number}
 use Rattle.stopping.proofs.Number.{true-or-false, number-in, number-out, number-nil, number-le}

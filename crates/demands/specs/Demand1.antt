@@ -13,7 +13,8 @@ use Rattle.shape.specs.declared.Sizes.{Sizes}
 use Rattle.shape.specs.declared.Line.{Line}
 use Rattle.shape.specs.Shapes.{shapeChecked, lineOf}
 use Rattle.shape.specs.Flags.{missing}
-use Rattle.cube.specs.Calls.{EncodeOutcome, ExtractOutcome, ReadOutcome, ZeroOutcome, CheckOutcome}
+use Rattle.data.specs.Calls.{ExtractOutcome, ReadOutcome, ZeroOutcome}
+use Rattle.cube.specs.Calls.{EncodeOutcome, CheckOutcome}
 use Rattle.fill.specs.Fill.{CellsLeft, Cleared, FillOutcome}
 use Rattle.mend.specs.Mend.{MendOutcome, AxisOutcome}
 use Rattle.cursor.specs.declared.Cursor.{Cursor}

@@ -23,7 +23,8 @@ use Rattle.shape.specs.Shapes.{both, cells, IsLine}
 use Rattle.shape.specs.Flags.{missing, flagsValid}
 use Rattle.shape.proofs.Valid.{both-parts}
 use Rattle.shape.proofs.Geometry.{line-cell-lt}
-use Rattle.cube.specs.Cube.{layer, layerLine}
+use Rattle.data.specs.Data.{layer}
+use Rattle.cube.specs.Cube.{layerLine}
 use Rattle.fill.specs.Fill.{CellsLeft, left, flagsChecked, Filling, FillOutcome, fill-done, fill-contradiction}
 use Rattle.examples.proofs.Tests.{implies, implies-sound, implies-true, same, same-sound, passes?, passes?-sound, all₂, all₂-sound, allLines, allLines-sound, allLines-true, bytes?, bytes?-sound, line?, line?-sound, line?-true}
 

@@ -16,8 +16,9 @@ use Rattle.shape.proofs.Valid.{both-parts}
 use Rattle.stopping.specs.Stopping.{number, onLine}
 use Rattle.stopping.proofs.Peeling.{has, listed, clear, few, peels, peelLine, pass, stable, peeled, largest}
 use Rattle.stopping.proofs.CubeLines.{table, grid, lines1, lines2, lines3, cubeLines, cubeLargest}
-use Rattle.cube.specs.Cube.{layer, layerLine}
-use Rattle.cube.specs.Calls.{slicesChecked}
+use Rattle.data.specs.Data.{layer}
+use Rattle.cube.specs.Cube.{layerLine}
+use Rattle.data.specs.Calls.{slicesChecked}
 use Rattle.fill.specs.Fill.{flagsChecked}
 use Rattle.mend.specs.Mend.{mendChecked, wholeChecked}
 use Rattle.examples.specs.Examples.{Example, product, right, encodes, fills, leaves, mends, no-place, Holds, Each, smallest, planes, made, wider, diagonal, diagonals, lastKnown, lastKnownFlags, examples}

@@ -18,7 +18,8 @@ use Rattle.line.proofs.Error.{corrected-none}
 use Rattle.shape.specs.declared.Shape.{Shape}
 use Rattle.shape.specs.Shapes.{both}
 use Rattle.shape.proofs.Valid.{both-parts}
-use Rattle.cube.specs.Cube.{layer, layerLine}
+use Rattle.data.specs.Data.{layer}
+use Rattle.cube.specs.Cube.{layerLine}
 use Rattle.mend.specs.Mend.{Pass, mendChecked, MendOutcome, mend-done}
 use Rattle.examples.proofs.Tests.{passes?, passes?-sound, all₂, all₂-sound, axisLines, axisLines-sound, codeCube?, codeCube?-sound}
 

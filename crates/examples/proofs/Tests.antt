@@ -15,10 +15,12 @@ use Rattle.answer.specs.Values.{Value, gives, refused, refused-at, Checked, pas
 use Rattle.field.specs.Field.{reduction}
 use Rattle.field.proofs.Primitive.{primitive}
 use Rattle.shape.specs.Shapes.{both, cells, capacity, cell, AxisLine, axis1, axis2, axis3, IsLine, along}
-use Rattle.cube.specs.Cube.{layer, layerLine, CodeCube, HoldsData}
-use Rattle.cube.specs.Calls.{slicesChecked, EncodeOutcome, encode-done}
+use Rattle.data.specs.Data.{layer, HoldsData}
+use Rattle.cube.specs.Cube.{layerLine, CodeCube}
+use Rattle.data.specs.Calls.{slicesChecked}
+use Rattle.cube.specs.Calls.{EncodeOutcome, encode-done}
 use Rattle.cube.specs.Theorems.{OneCodeCube}
-use Rattle.cube.proofs.Checks.{checked-done}
+use Rattle.data.proofs.Checks.{checked-done}
 use Rattle.cube.proofs.Existence.{one-code-cube}
 use Rattle.shape.proofs.Valid.{both-parts, both-true}
 use Rattle.line.specs.Line.{syndrome0, syndrome1, Codeword}

@@ -13,7 +13,8 @@ use Rattle.solver.specs.Solver.{pick, errorPlace}
 use Rattle.line.specs.Line.{syndrome0, syndrome1, corrected}
 use Rattle.shape.specs.Shapes.{cells, both, within, lengthsFit, sizes, shapeChecked, cell}
 use Rattle.shape.specs.Flags.{noneMissing, flagsValid}
-use Rattle.cube.specs.Cube.{layer, layerLine}
+use Rattle.data.specs.Data.{layer}
+use Rattle.cube.specs.Cube.{layerLine}
 use Rattle.cube.specs.Calls.{EncodeOutcome}
 use Rattle.cube.proofs.Outcomes.{encode-determined}
 use Rattle.fill.specs.Fill.{CellsLeft, left, FillOutcome}

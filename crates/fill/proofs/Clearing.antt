@@ -12,7 +12,7 @@ use Rattle.span.specs.Span.{SetTo}
 use Rattle.span.proofs.Keeping.{kept-beside}
 use Rattle.shape.specs.declared.Shape.{Shape}
 use Rattle.shape.specs.Shapes.{cells}
-use Rattle.cube.specs.Cube.{layer}
+use Rattle.data.specs.Data.{layer}
 use Rattle.fill.specs.Fill.{Cleared}
 use Rattle.fill.specs.Inner.Cells.{Sized}
 

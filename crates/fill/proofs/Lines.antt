@@ -16,7 +16,8 @@ use Rattle.shape.specs.declared.Line.{Line}
 use Rattle.shape.specs.declared.LineAnswer.{LineAnswer}
 use Rattle.shape.specs.declared.LineAnswer.the-variants.{Refused}
 use Rattle.shape.specs.Shapes.{Valid, AxisLine, IsLine, along, lineOf, lineValue}
-use Rattle.cube.specs.Cube.{layer, layerLine, CodeCube}
+use Rattle.data.specs.Data.{layer}
+use Rattle.cube.specs.Cube.{layerLine, CodeCube}
 use Rattle.cube.proofs.AxisRuns.{lines-ended}
 use Rattle.shape.proofs.Valid.{line-refused}
 use Rattle.shape.proofs.Geometry.{axis-cases, axis-line-every, line-cell-lt, line-stride-pos, line-length-low, line-length-high}

@@ -19,7 +19,8 @@ use Rattle.answer.specs.Values.{passes, checked, refusal, answerValue}
 use Rattle.answer.proofs.Values.{answer-failed}
 use Rattle.shape.specs.declared.Shape.{Shape}
 use Rattle.shape.specs.Shapes.{cells, IsLine}
-use Rattle.cube.specs.Cube.{layer, layerLine}
+use Rattle.data.specs.Data.{layer}
+use Rattle.cube.specs.Cube.{layerLine}
 use Rattle.line.proofs.Codeword.{codeword-cong}
 use Rattle.stopping.specs.Stopping.{number, Largest}
 use Rattle.stopping.proofs.Number.{true-or-false}

@@ -11,7 +11,8 @@ use lib.ListN.{length, getD, set, length-set}
 use lib.Seq.{getD-set-other}
 use Rattle.shape.specs.declared.Shape.{Shape}
 use Rattle.shape.specs.Shapes.{Valid, cells, IsLine}
-use Rattle.cube.specs.Cube.{layer, layerLine}
+use Rattle.data.specs.Data.{layer}
+use Rattle.cube.specs.Cube.{layerLine}
 use Rattle.shape.proofs.Geometry.{line-cell-lt, line-places-differ}
 use Rattle.line.specs.Line.{Codeword}
 use Rattle.line.specs.Run.{lineAt, Off}

@@ -19,7 +19,8 @@ use Rattle.shape.specs.Shapes.{Valid, cells, cell, IsLine}
 use Rattle.shape.specs.Flags.{missing, flagsValid}
 use Rattle.shape.proofs.Valid.{volume-le}
 use Rattle.shape.proofs.Geometry.{line-cell-lt}
-use Rattle.cube.specs.Cube.{layer, layerLine, CodeCube}
+use Rattle.data.specs.Data.{layer}
+use Rattle.cube.specs.Cube.{layerLine, CodeCube}
 use Rattle.stopping.specs.Stopping.{number, Largest}
 use Rattle.stopping.proofs.Number.{not-true-false, member, number-le, number-zero}
 use Rattle.stopping.proofs.Stopping.{onLine-zero, stopping-size}

@@ -12,7 +12,8 @@ use Rattle.shape.specs.declared.Shape.{Shape}
 use Rattle.shape.specs.Shapes.{cells, IsLine}
 use Rattle.shape.specs.Flags.{missing, noneMissing}
 use Rattle.shape.proofs.Geometry.{line-cell-lt}
-use Rattle.cube.specs.Cube.{layer, CodeCube}
+use Rattle.data.specs.Data.{layer}
+use Rattle.cube.specs.Cube.{CodeCube}
 use Rattle.stopping.specs.Stopping.{Largest}
 use Rattle.stopping.proofs.Number.{not-true-false, number-cong, number-none}
 use Rattle.stopping.proofs.Stopping.{onLine-none, largest-unique}

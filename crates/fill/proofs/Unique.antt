@@ -20,8 +20,9 @@ use Rattle.shape.specs.declared.Shape.{Shape}
 use Rattle.shape.specs.Shapes.{Valid, cells, IsLine}
 use Rattle.shape.specs.Flags.{missing, flagsValid}
 use Rattle.shape.proofs.Geometry.{cell-lt-cells, line-cell-lt, line-length-high}
-use Rattle.cube.specs.Cube.{layer, layerLine}
-use Rattle.cube.proofs.Unique.{cells-ext}
+use Rattle.data.specs.Data.{layer}
+use Rattle.cube.specs.Cube.{layerLine}
+use Rattle.data.proofs.Cells.{cells-ext}
 use Rattle.stopping.specs.Stopping.{number, onLine, Stopping, Largest}
 use Rattle.stopping.proofs.Number.{true-or-false, not-true-false, number-few}
 use Rattle.stopping.proofs.Stopping.{union, union-left, union-right, union-cases, union-neither, onLine-mono, onLine-cong, onLine-none, onLine-zero, stops-or-peels, largest-unique}

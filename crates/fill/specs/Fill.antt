@@ -11,7 +11,8 @@ use Rattle.shape.specs.declared.Shape.{Shape}
 use Rattle.shape.specs.Shapes.{both, cells, shapeChecked, IsLine}
 use Rattle.shape.specs.Flags.{missing, flagsValid}
 use Rattle.line.specs.Line.{Codeword}
-use Rattle.cube.specs.Cube.{layer, layerLine}
+use Rattle.data.specs.Data.{layer}
+use Rattle.cube.specs.Cube.{layerLine}
 use Rattle.stopping.specs.Stopping.{number, onLine, Largest}
 use Rattle.fill.specs.declared.FillAnswer.{FillAnswer}
 use Rattle.fill.specs.declared.FillAnswer.the-variants.{Left, Refused}

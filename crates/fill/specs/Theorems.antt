@@ -10,7 +10,8 @@ use Rattle.field.specs.Field.{Primitive}
 use Rattle.shape.specs.declared.Shape.{Shape}
 use Rattle.shape.specs.Shapes.{Valid, cells, IsLine}
 use Rattle.shape.specs.Flags.{missing, noneMissing}
-use Rattle.cube.specs.Cube.{layer, CodeCube}
+use Rattle.data.specs.Data.{layer}
+use Rattle.cube.specs.Cube.{CodeCube}
 use Rattle.stopping.specs.Stopping.{number, Largest}
 use Rattle.fill.specs.Fill.{CellsLeft, left, flagsChecked, Filling, FillOutcome}
 

@@ -10,7 +10,8 @@ use Rattle.answer.specs.declared.Refusal.{Refusal}
 use Rattle.answer.specs.Values.{Value, refusal}
 use Rattle.answer.proofs.Values.{refusal-gives}
 use Rattle.shape.specs.declared.Shape.{Shape}
-use Rattle.cube.specs.Calls.{EncodeOutcome, ExtractOutcome, CheckOutcome}
+use Rattle.data.specs.Calls.{ExtractOutcome}
+use Rattle.cube.specs.Calls.{EncodeOutcome, CheckOutcome}
 use Rattle.fill.specs.Fill.{CellsLeft, FillOutcome}
 use Rattle.mend.specs.Mend.{AxisOutcome, MendOutcome}
 use Rattle.writer.specs.Write.{WriteOutcome}

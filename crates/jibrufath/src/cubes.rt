@@ -3,7 +3,8 @@ use cube::CubeCheck;
 use fill::FillAnswer;
 use shape::Shape;
 ghost use Rattle.field.specs.Field.{reduction};
-ghost use Rattle.cube.specs.Calls.{EncodeOutcome, ExtractOutcome, CheckOutcome};
+ghost use Rattle.data.specs.Calls.{ExtractOutcome};
+ghost use Rattle.cube.specs.Calls.{EncodeOutcome, CheckOutcome};
 ghost use Rattle.fill.specs.Fill.{FillOutcome};
 ghost use Rattle.mend.specs.Mend.{AxisOutcome, MendOutcome};
 ghost use Rattle.jibrufath.specs.Exports.{shape, Exported, uncounted, truth, cellsLeft};
@@ -47,7 +48,7 @@ pub extern "C" fn jibrufath_extract(
         l3: l3,
         w: w,
     };
-    crate::word(cube::extract(cube, data, sh))
+    crate::word(data::extract(cube, data, sh))
 }
 
 // Gives every missing cell the bytes that the lines force. The count is the number of cells left.

@@ -13,8 +13,8 @@ use Rattle.shape.specs.declared.Shape.{Shape}
 use Rattle.shape.specs.declared.Sizes.{Sizes}
 use Rattle.shape.specs.Shapes.{Valid, both, within, cells, sizes, shapeChecked}
 use Rattle.shape.proofs.Valid.{both-parts, within-parts, shape-passed, shape-number}
-use Rattle.cube.specs.Calls.{cubeChecked}
-use Rattle.cube.proofs.Checks.{cube-checked-done}
+use Rattle.data.specs.Calls.{cubeChecked}
+use Rattle.data.proofs.Checks.{cube-checked-done}
 use Rattle.mend.specs.Mend.{axisChecked, wholeChecked, mendChecked}
 
 -- one pass: the shape is valid, the axis is one of three, and the length is the cube's

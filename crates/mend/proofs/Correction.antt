@@ -12,7 +12,8 @@ use Rattle.shape.specs.declared.Shape.{Shape}
 use Rattle.shape.specs.declared.Line.{Line}
 use Rattle.shape.specs.Shapes.{Valid, linesOf, firstOf, lineOf}
 use Rattle.shape.proofs.Geometry.{axis-line-every}
-use Rattle.cube.specs.Cube.{layer, layerLine}
+use Rattle.data.specs.Data.{layer}
+use Rattle.cube.specs.Cube.{layerLine}
 use Rattle.cube.proofs.AxisRuns.{Begins, runFrom, lineBeside, lineAt-run, beside-is, layer-below, run-end}
 use Rattle.mend.specs.Mend.{Pass}
 use Rattle.line.specs.Line.{corrected}

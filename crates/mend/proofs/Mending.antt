@@ -18,7 +18,8 @@ use Rattle.shape.specs.declared.Shape.{Shape}
 use Rattle.shape.specs.declared.Line.{Line}
 use Rattle.shape.specs.Shapes.{Valid, cells, strideOf, lengthOf, linesOf, firstOf, AxisLine, along}
 use Rattle.shape.proofs.Geometry.{placeAt-lt, strideOf-pos, lengthOf-low, On, placeOn, on-place, line-through, line-is, line-passed, axis-line-every, line-length-high}
-use Rattle.cube.specs.Cube.{layer, layerLine, CodeCube}
+use Rattle.data.specs.Data.{layer}
+use Rattle.cube.specs.Cube.{layerLine, CodeCube}
 use Rattle.mend.specs.Mend.{Pass, Passes, AxisOutcome, axis-refused, axis-done, MendOutcome, mend-refused, mend-done, mend-uncorrected}
 use Rattle.mend.proofs.Checks.{axis-mend-ready, mend-ready}
 

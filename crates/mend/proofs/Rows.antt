@@ -12,7 +12,8 @@ use Rattle.span.proofs.Stretches.{stretch-end}
 use Rattle.shape.specs.declared.Shape.{Shape}
 use Rattle.shape.specs.Shapes.{Valid, cells, cell, AxisLine, axis1}
 use Rattle.shape.proofs.Geometry.{low-lt}
-use Rattle.cube.specs.Cube.{layer, layerLine}
+use Rattle.data.specs.Data.{layer}
+use Rattle.cube.specs.Cube.{layerLine}
 use Rattle.span.specs.Span.{Copied}
 use Rattle.mend.specs.Mend.{Pass}
 use Rattle.mend.proofs.Correction.{corrected-cong}

@@ -10,8 +10,9 @@ use Rattle.shape.specs.declared.Shape.{Shape}
 use Rattle.shape.specs.Shapes.{both, within, shapeChecked, AxisLine}
 use Rattle.shape.specs.Flags.{flagsValid, noneMissing}
 use Rattle.line.specs.Line.{corrected}
-use Rattle.cube.specs.Cube.{layer, layerLine, CodeCube}
-use Rattle.cube.specs.Calls.{cubeChecked}
+use Rattle.data.specs.Data.{layer}
+use Rattle.cube.specs.Cube.{layerLine, CodeCube}
+use Rattle.data.specs.Calls.{cubeChecked}
 
 -- "Pass by axis …; each line of each layer by itself": ys is xs after the pass of one axis.
 pub record Pass (r : ℕ) (sh : Shape) (axis : ℕ) (xs ys : List ℕ) : Type 0 where

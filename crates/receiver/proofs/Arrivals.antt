@@ -14,7 +14,7 @@ use Rattle.span.proofs.Stretches.{stretch-end}
 use Rattle.span.specs.Span.{Copied, SameBytes}
 use Rattle.shape.specs.declared.Shape.{Shape}
 use Rattle.shape.specs.Shapes.{cells}
-use Rattle.cube.specs.Cube.{layer}
+use Rattle.data.specs.Data.{layer}
 use Rattle.stopping.specs.Stopping.{number}
 use Rattle.stopping.proofs.Number.{number-nil, number-le}
 use Rattle.pack.specs.Packets.{Source}

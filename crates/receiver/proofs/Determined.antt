@@ -17,7 +17,7 @@ use Rattle.field.specs.Field.{Primitive}
 use Rattle.shape.specs.declared.Shape.{Shape}
 use Rattle.shape.specs.Shapes.{Valid, cells, capacity}
 use Rattle.shape.specs.Flags.{missing}
-use Rattle.cube.specs.Cube.{layer, heldData}
+use Rattle.data.specs.Data.{layer, heldData}
 use Rattle.stopping.proofs.Number.{true-or-false}
 use Rattle.fill.specs.Fill.{CellsLeft, FillOutcome}
 use Rattle.fill.specs.Theorems.{SameKnown}

@@ -13,14 +13,14 @@ use Rattle.span.specs.Decision.{Decides}
 use Rattle.span.specs.Span.{Copied}
 use Rattle.shape.specs.declared.Shape.{Shape}
 use Rattle.shape.specs.Shapes.{Valid, cells, capacity}
-use Rattle.cube.specs.declared.DataCheck.{DataCheck}
-use Rattle.cube.specs.declared.DataCheck.the-variants.{Zero, Refused as NotRead}
-use Rattle.cube.specs.Calls.{ReadOutcome, zeroValue, ZeroOutcome}
-use Rattle.cube.specs.Cube.{layer, dataOf, heldData}
-use Rattle.cube.proofs.HeldData.{length-heldData, heldData-at}
-use Rattle.cube.proofs.Tables.{tabulate-lt}
-use Rattle.cube.proofs.Checks.{cube-done-checked, read-done-checked}
-use Rattle.cube.proofs.Outcomes.{read-works, zero-works, zero-nonzero}
+use Rattle.data.specs.declared.DataCheck.{DataCheck}
+use Rattle.data.specs.declared.DataCheck.the-variants.{Zero, Refused as NotRead}
+use Rattle.data.specs.Calls.{ReadOutcome, zeroValue, ZeroOutcome}
+use Rattle.data.specs.Data.{layer, dataOf, heldData}
+use Rattle.data.proofs.HeldData.{length-heldData, heldData-at}
+use Rattle.data.proofs.Tables.{tabulate-lt}
+use Rattle.data.proofs.Checks.{cube-done-checked, read-done-checked}
+use Rattle.data.proofs.Outcomes.{read-works, zero-works, zero-nonzero}
 use Rattle.cursor.specs.Steps.{word}
 use Rattle.receiver.specs.Opening.{long, later, OpenOutcome, held, bad}
 use Rattle.receiver.proofs.Bytes.{clash}

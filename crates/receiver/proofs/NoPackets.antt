@@ -12,7 +12,7 @@ use Rattle.shape.specs.declared.Shape.{Shape}
 use Rattle.shape.specs.Shapes.{Valid, cells, IsLine}
 use Rattle.shape.specs.Flags.{missing}
 use Rattle.shape.proofs.Geometry.{cell-lt-cells, line-cell-lt, line-length-low}
-use Rattle.cube.specs.Cube.{layer}
+use Rattle.data.specs.Data.{layer}
 use Rattle.stopping.specs.Stopping.{onLine, Stopping, Largest}
 use Rattle.stopping.proofs.Number.{number-all}
 use Rattle.fill.specs.Fill.{CellsLeft, flagsChecked, Filling, FillOutcome}

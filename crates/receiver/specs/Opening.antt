@@ -6,7 +6,7 @@ use Prim.Native.Nat.{ℕ, _+_, _-_, _≤_, _<_}
 use lib.ListN.{length, getD, drop}
 use Rattle.shape.specs.declared.Shape.{Shape}
 use Rattle.shape.specs.Shapes.{capacity}
-use Rattle.cube.specs.Cube.{heldData}
+use Rattle.data.specs.Data.{heldData}
 use Rattle.cursor.specs.Steps.{word}
 use Rattle.pack.specs.Packs.{dataString}
 use Rattle.answer.specs.Values.{Value, gives, refused}

@@ -8,7 +8,7 @@ use lib.Dec.{eqb}
 use lib.ListN.{length, getD}
 use Rattle.shape.specs.declared.Shape.{Shape}
 use Rattle.shape.specs.Shapes.{cells}
-use Rattle.cube.specs.Cube.{layer}
+use Rattle.data.specs.Data.{layer}
 use Rattle.stopping.specs.Stopping.{number}
 use Rattle.pack.specs.Packets.{Source}
 

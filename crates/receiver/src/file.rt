@@ -1,13 +1,13 @@
 // The file in a whole cube: its length, the zeros behind it, and its bytes.
-use cube::DataCheck;
 use cursor::wide;
+use data::DataCheck;
 use shape::Shape;
 ghost use mathlib.Core.Path.{_≡_};
 ghost use Prim.Native.Nat.{ℕ, _-_, _*_, _≤_, _<_};
 ghost use lib.ListN.{length};
 ghost use Rattle.span.specs.Decision.{Decides};
 ghost use Rattle.shape.specs.Shapes.{Valid, cells, capacity};
-ghost use Rattle.cube.specs.Cube.{dataOf, heldData};
+ghost use Rattle.data.specs.Data.{dataOf, heldData};
 ghost use Rattle.cursor.specs.Steps.{word};
 ghost use Rattle.receiver.specs.Opening.{OpenOutcome};
 ghost use Rattle.receiver.specs.Inner.File.{openingValue};
@@ -30,7 +30,7 @@ pub(crate) fn open(cube: &[u8], buffer: &mut [u8], sh: Shape) -> Opening
     if !zero_behind(cube, sh, 4 + n) {
         return Opening::Bad;
     }
-    cube::read_data(cube, buffer, sh, 4, 0, n);
+    data::read_data(cube, buffer, sh, 4, 0, n);
     Opening::Held(n)
 }
 
@@ -40,7 +40,7 @@ fn held_length(cube: &[u8], sh: Shape) -> usize
     ensures { λ r. ⌜ r ≡ word (heldData sh (now (cube .entry))) 0 ⌝ }
 {
     let mut bytes = [0u8; 4];
-    cube::read_data(cube, &mut bytes, sh, 0, 0, 4);
+    data::read_data(cube, &mut bytes, sh, 0, 0, 4);
     wide(bytes[0]) + 256 * wide(bytes[1]) + 65536 * wide(bytes[2]) + 16777216 * wide(bytes[3])
 }
 
@@ -49,7 +49,7 @@ fn zero_behind(cube: &[u8], sh: Shape, from: usize) -> bool
     requires { ⌜ Valid sh × (length (now cube) ≡ sh .w * cells sh) ⌝ }
     ensures { λ r. ⌜ Decides ((q : ℕ) → from ≤ q → q < capacity sh → dataOf sh (now (cube .entry)) q ≡ 0) r ⌝ }
 {
-    match cube::is_data_zero(cube, sh, from) {
+    match data::is_data_zero(cube, sh, from) {
         DataCheck::Zero(zero) => zero,
         DataCheck::Refused(_) => false,
     }

@@ -21,6 +21,12 @@ decides-eq a b f g = record { yes-when = λ p. eq-eqb a b (f p); yes-then = λ e
 pub decides-map : {P Q : Type 0} {answer : Bool} → (P → Q) → (Q → P) → Decides P answer → Decides Q answer
 decides-map f g d = record { yes-when = λ q. d .yes-when (g q); yes-then = λ e. f (d .yes-then e) }
 
+-- two answers that decide one statement are the same
+pub decides-same : {P : Type 0} (a b : Bool) → Decides P a → Decides P b → a ≡ b
+decides-same true b d e = sym (e .yes-when (d .yes-then refl))
+decides-same false true d e = d .yes-when (e .yes-then refl)
+decides-same false false d e = refl
+
 -- where the answer is false
 pub decides-false : {P : Type 0} {answer : Bool} → Decides P answer → answer ≡ false → P → ⊥
 decides-false d e p = true≢false (sym (d .yes-when p) ∙ e)

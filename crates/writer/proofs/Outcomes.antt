@@ -22,9 +22,10 @@ use Rattle.shape.specs.declared.Shape.{Shape}
 use Rattle.shape.specs.declared.Sizes.{Sizes}
 use Rattle.shape.specs.Shapes.{both, cells, capacity, sizes}
 use Rattle.shape.proofs.Valid.{both-parts}
-use Rattle.cube.specs.Calls.{slicesChecked, EncodeOutcome, encode-refused, encode-done}
+use Rattle.data.specs.Calls.{slicesChecked}
+use Rattle.cube.specs.Calls.{EncodeOutcome, encode-refused, encode-done}
 use Rattle.cube.specs.Theorems.{OnlyCodeCube}
-use Rattle.cube.proofs.Checks.{done-checked}
+use Rattle.data.proofs.Checks.{done-checked}
 use Rattle.cube.proofs.Outcomes.{encode-one}
 use Rattle.pack.specs.declared.Header.{Header}
 use Rattle.pack.specs.declared.Section.{Section}

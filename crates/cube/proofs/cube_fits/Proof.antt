@@ -5,7 +5,7 @@ use Rattle.answer.specs.Refusals.{faultNumber}
 use Rattle.answer.specs.Values.{andThen, check, checked, refusal, answerValue}
 use Rattle.answer.proofs.Values.{then-refused}
 use Rattle.shape.proofs.Valid.{measure-fits, measure-refused}
-use Rattle.cube.specs.Calls.{cubeChecked}
+use Rattle.data.specs.Calls.{cubeChecked}
 use Rattle.cube.proofs.cube_fits.Statement.{statement}
 use Rattle.cube.proofs.cube_fits.Tie as tie
 

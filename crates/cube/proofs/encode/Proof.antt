@@ -1,7 +1,7 @@
 -- `encode` refuses by the checks and changes nothing, or leaves the code cube of the data.
 use borrow.Author.Needs.{needs}
 use Rattle.field.proofs.Primitive.{primitive}
-use Rattle.cube.proofs.Checks.{checked-done}
+use Rattle.data.proofs.Checks.{checked-done}
 use Rattle.answer.specs.Values.{answerValue}
 use Rattle.answer.proofs.Values.{answer-passed}
 use Rattle.cube.specs.Calls.{encode-done}

@@ -2,7 +2,7 @@
 use borrow.Author.Needs.{needs}
 use Rattle.answer.proofs.Values.{answer-passed}
 use Rattle.cube.specs.Calls.{checkValue, check-done}
-use Rattle.cube.proofs.Checks.{cube-checked-done}
+use Rattle.data.proofs.Checks.{cube-checked-done}
 use Rattle.cube.proofs.Outcomes.{check-unfit}
 use Rattle.cube.proofs.is_code_cube.Statement.{statement}
 use Rattle.cube.proofs.is_code_cube.Tie as tie

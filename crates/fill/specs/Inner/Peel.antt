@@ -8,7 +8,8 @@ use lib.ListN.{length, getD}
 use Rattle.shape.specs.declared.Shape.{Shape}
 use Rattle.shape.specs.Shapes.{cells, AxisLine, IsLine}
 use Rattle.shape.specs.Flags.{missing}
-use Rattle.cube.specs.Cube.{layer, layerLine}
+use Rattle.data.specs.Data.{layer}
+use Rattle.cube.specs.Cube.{layerLine}
 use Rattle.line.specs.Line.{Codeword}
 use Rattle.stopping.specs.Stopping.{number, onLine, Stopping}
 

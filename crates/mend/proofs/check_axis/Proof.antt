@@ -7,7 +7,7 @@ use Rattle.answer.specs.Values.{passes, check, andThen, checked, refusal, answe
 use Rattle.answer.proofs.Values.{then-refused}
 use Rattle.shape.specs.Shapes.{both, within, shapeChecked}
 use Rattle.shape.proofs.Valid.{within-true, measure-fits, measure-refused}
-use Rattle.cube.specs.Calls.{cubeChecked}
+use Rattle.data.specs.Calls.{cubeChecked}
 use Rattle.mend.specs.Mend.{axisChecked}
 use borrow.Author.Needs.{needs}
 use Rattle.mend.proofs.check_axis.Statement.{statement}

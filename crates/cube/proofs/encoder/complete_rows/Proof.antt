@@ -5,7 +5,8 @@ use native.Mathlib.Omega.{arith}
 use lib.ListN.{length}
 use Rattle.span.proofs.Stretches.{stretch-end}
 use Rattle.cube.specs.Inner.Encoder.{RowsCompleted}
-use Rattle.cube.proofs.Bytes.{Small, small, rows-in-plane}
+use Rattle.shape.proofs.Bounds.{Small, small}
+use Rattle.cube.proofs.Bytes.{rows-in-plane}
 use Rattle.cube.proofs.Completing.{rowRun, row-inside, outcome-solved}
 use Rattle.cube.proofs.Planes.{rows-completed-none, rows-completed-more}
 use Rattle.cube.proofs.encoder.complete_rows.Statement.{statement}

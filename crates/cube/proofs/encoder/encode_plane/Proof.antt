@@ -3,7 +3,7 @@ use Prim.Native.Nat.{_-_}
 use native.Mathlib.Omega.{arith}
 use borrow.Author.Needs.{needs}
 use lib.ListN.{length}
-use Rattle.cube.proofs.Bytes.{Small, small}
+use Rattle.shape.proofs.Bounds.{Small, small}
 use Rattle.cube.proofs.Completing.{columnsRun, columns-inside, outcome-solved}
 use Rattle.cube.proofs.Planes.{plane-code}
 use Rattle.cube.proofs.encoder.encode_plane.Statement.{statement}

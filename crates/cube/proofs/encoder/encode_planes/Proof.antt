@@ -4,7 +4,8 @@ use Prim.Native.Nat.{_+_, _*_, _-_, _≤_}
 use native.Mathlib.Omega.{arith}
 use lib.ListN.{length}
 use Rattle.cube.specs.Inner.Encoder.{planeBytes, PlanesCoded}
-use Rattle.cube.proofs.Bytes.{Small, small, plane-inside}
+use Rattle.shape.proofs.Bounds.{Small, small}
+use Rattle.cube.proofs.Bytes.{plane-inside}
 use Rattle.cube.proofs.Lending.{lent-length}
 use Rattle.cube.proofs.Planes.{planes-coded-none, planes-coded-more}
 use Rattle.cube.proofs.encoder.encode_planes.Statement.{statement}

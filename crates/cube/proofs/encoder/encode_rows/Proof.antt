@@ -6,7 +6,8 @@ use lib.ListN.{length}
 use Rattle.span.proofs.Stretches.{stretch-end}
 use Rattle.shape.specs.Shapes.{cells}
 use Rattle.cube.specs.Inner.Encoder.{planeBytes, partBytes, RowsEncoded}
-use Rattle.cube.proofs.Bytes.{Small, small, rows-in-plane}
+use Rattle.shape.proofs.Bounds.{Small, small}
+use Rattle.cube.proofs.Bytes.{rows-in-plane}
 use Rattle.cube.proofs.Completing.{acrossRun}
 use Rattle.cube.proofs.Encoding.{rowsFrom, rowsTo, rows-to-inside, rows-fed, rows-encoded-none, rows-encoded-more}
 use Rattle.cube.proofs.encoder.encode_rows.Statement.{statement}
