@@ -1,9 +1,7 @@
 -- What the private functions of `packets` answer.
 use mathlib.Core.Bool.{Bool, cond}
-use mathlib.Core.List.{List}
-use Prim.Native.Nat.{ℕ, _+_}
+use Prim.Native.Nat.{ℕ}
 use lib.Dec.{leb, ltb}
-use lib.ListN.{getD}
 use Rattle.shape.specs.declared.Shape.{Shape}
 use Rattle.shape.specs.Shapes.{both, cell}
 use Rattle.pack.specs.declared.PacketRead.{PacketRead}
