@@ -20,7 +20,8 @@ enum-known-s c = search needs
 cast-air-bytes : tie.Need-cast-air-bytes
 cast-air-bytes c =
     let told = c .before .before in
-    omega (arith, packets-few (scanned-whole _ _ (told .before .before .scan .ensures) (told .s .given .1)))
+    let r = scanned-whole _ _ (told .before .before .scan .ensures) (told .s .given .1) in
+    omega (arith, packets-few r, r .scanning .inside .bound, r .scanning .packets)
 
 air-bytes-requires : tie.Need-air-bytes-requires
 air-bytes-requires c κs = search needs
