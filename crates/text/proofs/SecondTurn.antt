@@ -1,14 +1,12 @@
 -- What a second turn over a text in the form finds: the line of each packet at its place, its numbers and its bytes.
 use mathlib.Core.Path.{_≡_, sym, ap, _∙_}
 use mathlib.Core.List.{List, _++_, append-assoc}
-use Prim.Native.Nat.{ℕ, suc, _+_, _*_, _≤_, _<_}
-use native.Mathlib.Numerals.{add-one}
+use Prim.Native.Nat.{ℕ, _+_, _*_, _≤_}
 use native.Mathlib.Omega.{arith}
-use lib.ListN.{length, take, drop, length-append, take-append-drop}
-use lib.Seq.{drop-cons, drop-append-add, drop-append-seam, take-length}
+use lib.ListN.{length, take, drop, take-append-drop}
+use lib.Seq.{drop-append-add, drop-append-seam}
 use Rattle.shape.specs.declared.Shape.{Shape}
 use Rattle.pack.specs.Packs.{Packet}
-use Rattle.pack.specs.Packets.{packetNo}
 use Rattle.printing.specs.Text.{ascii}
 use Rattle.text.specs.Form.{packetLine, packetLines, firstLine, textOf, Formed}
 use Rattle.text.specs.Inner.Lines.{HexLine, threeOf, ThreeOutcome, three-found, three-nothing, pairBytes}
@@ -34,28 +32,9 @@ module _ (sh : Shape) (ks : List Packet) where
       drop-append-add (firstLine sh) (packetLines ks) (length before)
       ∙ (ap (drop (length before)) (packets-parts i) ∙ drop-append-seam before (packetLines (drop i ks)))
 
-  pub line-stands : (i : ℕ) → i < length ks
-      → drop (lineAt sh ks i) (textOf sh ks) ≡ packetLine (packetNo ks i) ++ drop (lineAt sh ks (i + 1)) (textOf sh ks)
-  unfolding packetLines packetNo
-  line-stands i l =
-      let line = packetLine (packetNo ks i) in
-      let next : drop (lineAt sh ks (i + 1)) (textOf sh ks) ≡ packetLines (drop (suc i) ks)
-      = line-rest (i + 1) ∙ ap (λ (n : ℕ). packetLines (drop n ks)) (add-one i) in
-      line-rest i ∙ (ap packetLines (drop-cons ks i _ l) ∙ ap (λ (r : List ℕ). line ++ r) (sym next))
-
   pub line-first : lineAt sh ks 0 ≡ length (firstLine sh)
   unfolding lineAt packetLines
   line-first = omega arith
-
-  pub line-last : lineAt sh ks (length ks) ≡ length (textOf sh ks)
-  unfolding lineAt textOf
-  line-last = rw (take-length ks) (sym (length-append (firstLine sh) (packetLines ks)))
-
-  pub line-inside : (i : ℕ) → lineAt sh ks i ≤ length (textOf sh ks)
-  unfolding lineAt textOf
-  line-inside i =
-      omega
-      (arith, length-append (firstLine sh) (packetLines ks), ap length (packets-parts i), length-append (packetLines (take i ks)) (packetLines (drop i ks)))
 
 -- ---- a line once more
 
