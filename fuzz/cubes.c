@@ -26,6 +26,15 @@ static void next_cube(struct input *input, const struct shape *shape, uint8_t ch
     remember(&cube);
 }
 
+/* Such a cube in the memory that a call gets, of its length or a byte off. */
+static void next_output(struct input *input, const struct shape *shape, uint8_t choice)
+{
+    next_cube(input, shape, choice);
+    lend(&output, near(cube.len, choice, 0), choice);
+    memcpy(output.bytes, cube.bytes, cube.len < output.len ? cube.len : output.len);
+    remember(&output);
+}
+
 void fuzz_fill(struct input input, uint8_t choice)
 {
     struct shape shape = next_shape(&input);
@@ -78,10 +87,7 @@ void fuzz_mend_axis(struct input input, uint8_t choice)
 {
     struct shape shape = next_shape(&input);
     const size_t *l = shape.length;
-    next_cube(&input, &shape, choice);
-    lend(&output, near(cube.len, choice, 0), choice);
-    memcpy(output.bytes, cube.bytes, cube.len < output.len ? cube.len : output.len);
-    remember(&output);
+    next_output(&input, &shape, choice);
     size_t axis = next_byte(&input) % 5;
     uint64_t answer = jibrufath_mend_axis(output.bytes, output.len, l[0], l[1], l[2], shape.w, axis);
     note(MEND_AXIS, answer, 0x0013); /* 0, 1, 4 */
@@ -124,10 +130,7 @@ void fuzz_check(struct input input, uint8_t choice)
 {
     struct shape shape = next_shape(&input);
     const size_t *l = shape.length;
-    next_cube(&input, &shape, choice);
-    lend(&output, near(cube.len, choice, 0), choice);
-    memcpy(output.bytes, cube.bytes, cube.len < output.len ? cube.len : output.len);
-    remember(&output);
+    next_output(&input, &shape, choice);
     uint64_t answer = jibrufath_is_code_cube(output.bytes, output.len, l[0], l[1], l[2], shape.w);
     note(CHECK, answer, 0x0011); /* 0, 4 */
     require(kept(&output), "a cube that is only read");
