@@ -8,11 +8,10 @@ pub mod Erasure
 pub mod Geometry
 pub mod Runs
 pub mod Error
--- Then what the functions' proofs share. Updated and Strips: lists written byte by byte. Tails: Horner's rule for lines side by side.
+-- Then what the functions' proofs share. TwoStrips: lists written byte by byte. Tails: Horner's rule for lines side by side.
 -- Zeros: all syndromes 0. Rows: erasures with their row. Parts: a run block by block. Solving, Correction and Encoding: a block's erasures,
 -- its errors, its parity.
-mod Updated
-mod Strips
+mod TwoStrips
 mod Tails
 mod Zeros
 mod Rows

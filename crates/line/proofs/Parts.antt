@@ -5,12 +5,13 @@ use mathlib.Core.List.{List}
 use mathlib.Core.Logic.{_⊎_, inl, inr, ⊎-elim}
 use Prim.Native.Nat.{ℕ, _+_, _-_, _*_, _≤_, _<_, min}
 use native.Mathlib.Decide.{decLt}
+use native.Mathlib.Nat.{mul-le-mul-left}
 use native.Mathlib.Omega.{arith}
 use lib.ListN.{length, getD}
 use Rattle.line.specs.declared.Run.{Run}
 use Rattle.line.specs.Line.{Codeword}
 use Rattle.line.specs.Run.{Inside, Off, lineAt}
-use Rattle.line.specs.Inner.Block.{part, front, Block, Cover}
+use Rattle.line.specs.Inner.Block.{part, front, Block, Cover, Roomy}
 use Rattle.line.proofs.Geometry.{stride-below, off-place}
 
 -- ---- parts of a run
@@ -261,3 +262,12 @@ module _ (r : ℕ) (s : List ℕ) {run next : Run} {a : ℕ} (b : Cover run a ne
             subst (λ (x : ℕ). Codeword r (lineAt s run x) (run .len)) (omega arith)
             (line-block (t - b .start) (g (t - b .start) (omega (arith, cover-done b))))
       ]
+
+-- 64 lines have room, and so has any place of a run whose last one has
+pub roomy-inside : {run : Run} {n : ℕ} → Inside run n → 64 ≤ run .width → Roomy run n
+unfolding Roomy
+roomy-inside h many i l = omega (arith, h .fits i l)
+
+pub roomy-last : (run : Run) {n : ℕ} → run .first + run .stride * (run .len - 1) + 64 ≤ n → Roomy run n
+unfolding Roomy
+roomy-last run h i l = omega (arith, mul-le-mul-left {m = i} {n = run .len - 1} (run .stride) (omega arith))

@@ -10,6 +10,7 @@ use Rattle.span.specs.Span.{Copied, SetTo}
 use Rattle.span.proofs.Keeping.{kept-beside}
 use Rattle.span.proofs.Copying.{copied-whole}
 use Rattle.field.specs.Field.{add, mul}
+use Rattle.strip.specs.Strip.{Products, Sums}
 use Rattle.line.specs.declared.Run.{Run}
 use Rattle.line.specs.declared.Erasures.{Erasures}
 use Rattle.line.specs.Line.{syndrome0, syndrome1, erased}
@@ -123,23 +124,22 @@ combined-erased r run e l0 l1 l2 s0 s1 size kept first second co =
       earlier = λ l t h. co .earlier l t h ∙ ap (λ (x : ℕ). add x (lineAt l2 run t (e .k))) (first t h);
     }
 
--- both erasures of 64 lines, the later one written last
+-- both erasures of up to 64 lines, the later one written last
 pub copied-combined :
-    {r : ℕ} {run : Run} {e : Erasures} {s0 s1 x y l0 l1 l2 : List ℕ} → run .width ≡ 64 → run .width ≤ run .stride →
-    ((t : ℕ) → t < 64 → getD y t 0 ≡ add (mul r (getD s0 t 0) (e .b)) (mul r (getD s1 t 0) (e .d))) →
-    ((t : ℕ) → t < 64 → getD x t 0 ≡ add (getD s0 t 0) (getD y t 0)) →
-    Copied x 0 l0 (run .first + run .stride * e .j) 64 l1 → Copied y 0 l1 (run .first + run .stride * e .k) 64 l2 →
+    {r : ℕ} {run : Run} {e : Erasures} {w : ℕ} {s0 s1 x y l0 l1 l2 : List ℕ} → run .width ≡ w → w ≤ 64 → run .width ≤ run .stride →
+    Products r (e .b) (e .d) s0 s1 y → Sums s0 y x →
+    Copied x 0 l0 (run .first + run .stride * e .j) w l1 → Copied y 0 l1 (run .first + run .stride * e .k) w l2 →
     Combined r run e s0 s1 l0 l2
 unfolding lineAt
-copied-combined {r} {run} {e} {s0} {s1} w apart ys xs sj sk =
+copied-combined {r} {run} {e} {w} {s0} {s1} same few apart ys xs sj sk =
     record {
       size = sk .kept .size ∙ sj .kept .size;
       kept =
-          λ p oj ok. kept-beside (sk .kept) p (off-width run (e .k) p 64 (sym w) ok) ∙ kept-beside (sj .kept) p (off-width run (e .j) p 64 (sym w) oj);
-      later = λ t h. copied-whole sk t (omega arith) ∙ ys t (omega arith);
+          λ p oj ok. kept-beside (sk .kept) p (off-width run (e .k) p w (sym same) ok) ∙ kept-beside (sj .kept) p (off-width run (e .j) p w (sym same) oj);
+      later = λ t h. copied-whole sk t (omega arith) ∙ ys .bytes t (omega arith);
       earlier =
           λ l t h. sk .kept .below _ (omega (arith, stride-below (run .stride) (e .j) (e .k) l))
-          ∙ copied-whole sj t (omega arith) ∙ xs t (omega arith)
+          ∙ copied-whole sj t (omega arith) ∙ xs .bytes t (omega arith)
           ∙ ap (add (getD s0 t 0)) (sym (copied-whole sk t (omega arith)));
     }
 

@@ -10,9 +10,9 @@ use Rattle.field.specs.Field.{add, xtime}
 use Rattle.field.proofs.Addition.{add-comm}
 use Rattle.line.specs.declared.Run.{Run}
 use Rattle.line.specs.Run.{lineAt}
-use Rattle.line.specs.Inner.Wide.{tail0, tail1, Tails, One, Four, horner0, horner1}
+use Rattle.line.specs.Inner.Wide.{tail0, tail1, Empty, Tails, One, Four, horner0, horner1}
 use Rattle.line.specs.Inner.Block.{Syndromes}
-use Rattle.line.specs.Inner.Strip.{Step}
+use Rattle.strip.specs.Strip.{Step}
 use Rattle.line.proofs.Syndrome.{tail0-end, tail1-end, tail0-step, tail1-step, tail0-whole, tail1-whole}
 
 step0 : (c : ℕ → ℕ) (n i next : ℕ) → next ≡ i + 1 → i < n → add (tail0 c n next) (c i) ≡ tail0 c n i
@@ -44,26 +44,28 @@ four1 r c n i fits bytes h =
     ∙ ap (λ (x : ℕ). add (xtime r x) (c i)) (step1 r c n (i + 1) (i + 2) fits (bytes (i + 1)) (omega arith) (omega arith))
     ∙ step1 r c n i (i + 1) fits (bytes i) refl (omega arith)
 
-pub tails-none :
-    (m r : ℕ) (run : Run) (s s0 s1 : List ℕ) → run .width ≤ m → s0 ≡ replicate m 0 → s1 ≡ replicate m 0 →
-    Tails m r run (run .len) s s0 s1
-tails-none m r run s s0 s1 few e0 e1 =
+pub empty-replicate : (m n : ℕ) (l : List ℕ) → n ≤ m → l ≡ replicate m 0 → Empty n l
+empty-replicate m n l few e =
     record {
-      size0 = ap length e0 ∙ length-replicate {A = ℕ} m 0;
-      size1 = ap length e1 ∙ length-replicate {A = ℕ} m 0;
-      first =
-          λ t h. ap (λ (l : List ℕ). getD l t 0) e0 ∙ getD-replicate m t 0 0 (omega arith) ∙ sym (tail0-end _ _);
-      second =
-          λ t h. ap (λ (l : List ℕ). getD l t 0) e1 ∙ getD-replicate m t 0 0 (omega arith) ∙ sym (tail1-end _ _ _);
+      room = omega (arith, ap length e, length-replicate {A = ℕ} m 0);
+      zero = λ t h. ap (λ (x : List ℕ). getD x t 0) e ∙ getD-replicate m t 0 0 (omega arith);
+    }
+
+pub tails-none : (r : ℕ) (run : Run) (s s0 s1 : List ℕ) → Empty (run .width) s0 → Empty (run .width) s1 → Tails r run (run .len) s s0 s1
+tails-none r run s s0 s1 e0 e1 =
+    record {
+      room0 = e0 .room;
+      room1 = e1 .room;
+      first = λ t h. e0 .zero t h ∙ sym (tail0-end _ _);
+      second = λ t h. e1 .zero t h ∙ sym (tail1-end _ _ _);
     }
 
 pub tails-at :
-    {m r : ℕ} {run : Run} {s s0 s1 : List ℕ} (left next : ℕ) → left ≡ next → Tails m r run left s s0 s1 →
-    Tails m r run next s s0 s1
-tails-at {m} {r} {run} {s} {s0} {s1} left next e h = subst (λ (x : ℕ). Tails m r run x s s0 s1) e h
+    {r : ℕ} {run : Run} {s s0 s1 : List ℕ} (left next : ℕ) → left ≡ next → Tails r run left s s0 s1 →
+    Tails r run next s s0 s1
+tails-at {r} {run} {s} {s0} {s1} left next e h = subst (λ (x : ℕ). Tails r run x s s0 s1) e h
 
-pub tails-whole :
-    {m : ℕ} (r : ℕ) (run : Run) (s s0 s1 : List ℕ) → Tails m r run 0 s s0 s1 → Syndromes r run s s0 s1
+pub tails-whole : (r : ℕ) (run : Run) (s s0 s1 : List ℕ) → Tails r run 0 s s0 s1 → Syndromes r run s s0 s1
 tails-whole r run s s0 s1 h =
     record {
       first = λ t l. h .first t l ∙ tail0-whole (lineAt s run t) (run .len);
@@ -74,13 +76,13 @@ line-byte : (s : List ℕ) (run : Run) → ((p : ℕ) → getD s p 0 < 256) → 
 unfolding lineAt
 line-byte s run bytes t i = bytes _
 
-module _ {m r : ℕ} {run : Run} {left next : ℕ} {s a0 a1 : List ℕ} (fits : r < 256) (bytes : (p : ℕ) → getD s p 0 < 256)
-    (before : Tails m r run next s a0 a1) {b0 b1 : List ℕ} where
-  pub tails-one : One r run left s a0 a1 b0 b1 → next ≡ left + 1 → left < run .len → Tails m r run left s b0 b1
+module _ {r : ℕ} {run : Run} {left next : ℕ} {s a0 a1 : List ℕ} (fits : r < 256) (bytes : (p : ℕ) → getD s p 0 < 256)
+    (before : Tails r run next s a0 a1) {b0 b1 : List ℕ} where
+  pub tails-one : One r run left s a0 a1 b0 b1 → next ≡ left + 1 → left < run .len → Tails r run left s b0 b1
   tails-one one e h =
       record {
-        size0 = one .size0 ∙ before .size0;
-        size1 = one .size1 ∙ before .size1;
+        room0 = omega (arith, one .size0, before .room0);
+        room1 = omega (arith, one .size1, before .room1);
         first =
             λ t l. one .first t l ∙ ap (λ (x : ℕ). add x (lineAt s run t left)) (before .first t l)
             ∙ step0 (lineAt s run t) (run .len) left next e h;
@@ -89,11 +91,11 @@ module _ {m r : ℕ} {run : Run} {left next : ℕ} {s a0 a1 : List ℕ} (fits : 
             ∙ step1 r (lineAt s run t) (run .len) left next fits (line-byte s run bytes t left) e h;
       }
 
-  pub tails-four : Four r run left s a0 a1 b0 b1 → next ≡ left + 4 → left + 3 < run .len → Tails m r run left s b0 b1
+  pub tails-four : Four r run left s a0 a1 b0 b1 → next ≡ left + 4 → left + 3 < run .len → Tails r run left s b0 b1
   tails-four four e h =
       record {
-        size0 = four .size0 ∙ before .size0;
-        size1 = four .size1 ∙ before .size1;
+        room0 = omega (arith, four .size0, before .room0);
+        room1 = omega (arith, four .size1, before .room1);
         first =
             λ t l. four .first t l ∙ ap (horner0 (lineAt s run t) left) (before .first t l)
             ∙ rw e (four0 (lineAt s run t) (run .len) left h);
@@ -102,17 +104,17 @@ module _ {m r : ℕ} {run : Run} {left next : ℕ} {s a0 a1 : List ℕ} (fits : 
             ∙ rw e (four1 r (lineAt s run t) (run .len) left fits (line-byte s run bytes t) h);
       }
 
--- Horner's step by the bytes of the place `left`, for 64 lines
+-- Horner's step by the bytes of the place `left`, for up to 64 lines
 pub step-one :
-    {r : ℕ} {run : Run} {left : ℕ} {s c a0 a1 b0 b1 : List ℕ} → run .width ≡ 64 →
+    {r : ℕ} {run : Run} {left : ℕ} {s c a0 a1 b0 b1 : List ℕ} → run .width ≤ 64 → length a0 ≡ 64 → length a1 ≡ 64 →
     Piece s (run .first + run .stride * left) 64 c → Step r c a0 a1 b0 b1 → One r run left s a0 a1 b0 b1
 unfolding lineAt
-step-one {r} {a0 = a0} {a1 = a1} e w st =
+step-one {r} {a0 = a0} {a1 = a1} few e0 e1 w st =
     record {
       size0 = st .size0;
       size1 = st .size1;
-      first = λ t h. st .first t (omega arith) ∙ ap (add (getD a0 t 0)) (w .bytes t (omega arith));
-      second = λ t h. st .second t (omega arith) ∙ ap (add (xtime r (getD a1 t 0))) (w .bytes t (omega arith));
+      first = λ t h. st .first e0 t (omega arith) ∙ ap (add (getD a0 t 0)) (w .bytes t (omega arith));
+      second = λ t h. st .second e1 t (omega arith) ∙ ap (add (xtime r (getD a1 t 0))) (w .bytes t (omega arith));
     }
 
 -- the code's places of four steps

@@ -1,5 +1,4 @@
 -- What the private functions of the crate owe one another, module by module.
 pub mod Block
 pub mod Encoder
-pub mod Strip
 pub mod Wide

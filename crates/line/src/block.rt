@@ -1,7 +1,9 @@
-// A run of neighbouring lines, block by block: strips of 64 lines, or wide blocks where the run is wide and its lines are long.
+// A run of neighbouring lines, block by block: strips of 64 lines, wide blocks where the run is wide and its lines are long, a narrow block where
+// it has fewer than 64 lines.
 use crate::Erasures;
 use crate::Run;
-use crate::strip;
+use crate::narrow;
+use crate::strips;
 use crate::wide;
 ghost use mathlib.Core.Path.{_≡_};
 ghost use Prim.Native.Nat.{ℕ, _+_, _*_, _^_, _<_, _≤_, min};
@@ -59,10 +61,14 @@ fn combine(s: &mut [u8], reduction: u8, read: Run, run: Run, e: Erasures)
     ensures { λ r. ⌜ Combining reduction read run e (now (s .entry)) (now (s .exit)) ⌝ }
 {
     if run.width == 64 {
-        strip::solve(s, reduction, read, run, e);
-    } else {
-        wide::solve(s, reduction, read, run, e);
+        strips::solve(s, reduction, read, run, e);
+        return;
     }
+    if run.width < 64 {
+        narrow::solve(s, reduction, read, run, e);
+        return;
+    }
+    wide::solve(s, reduction, read, run, e);
 }
 
 // Whether every line of the run is a codeword.
@@ -87,7 +93,10 @@ pub(crate) fn codeword_block(s: &[u8], reduction: u8, run: Run) -> bool
     ensures { λ r. ⌜ Decides ((t : ℕ) → t < run .width → Codeword reduction (lineAt (now (s .entry)) run t) (run .len)) r ⌝ }
 {
     if run.width == 64 {
-        return strip::codewords(s, reduction, run);
+        return strips::codewords(s, reduction, run);
+    }
+    if run.width < 64 {
+        return narrow::codewords(s, reduction, run);
     }
     wide::codewords(s, reduction, run)
 }

@@ -3,7 +3,7 @@
 use crate::Erasures;
 use crate::Run;
 use crate::block;
-use crate::strip;
+use crate::strips;
 ghost use mathlib.Core.Path.{_≡_};
 ghost use Prim.Native.Nat.{_+_, _-_, _≤_};
 ghost use lib.ListN.{length, replicate};
@@ -55,7 +55,7 @@ fn encode_strip(data: &[u8], s: &mut [u8], reduction: u8, from: Run, to: Run, a:
     let mut s0 = [0u8; 64];
     let mut s1 = [0u8; 64];
     place_strip(data, s, &mut s0, &mut s1, reduction, source, target);
-    strip::combine(s, s0, s1, reduction, target, e);
+    strips::combine(s, s0, s1, reduction, target, e);
 }
 
 // Copies the data places of 64 lines, and sums both syndromes of what is copied.

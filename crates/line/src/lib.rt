@@ -3,7 +3,8 @@
 mod block;
 mod corrector;
 mod encoder;
-mod strip;
+mod narrow;
+mod strips;
 mod wide;
 
 ghost use mathlib.Core.Path.{_≡_};

@@ -1,13 +1,14 @@
-// Blocks of up to 4096 neighbouring lines: each place is read as one long piece of memory, four places a pass.
+// Blocks of up to 4096 neighbouring lines: each place is read as one long piece of memory, four places a pass. The kernel takes syndromes of any
+// room, so that it serves narrow blocks as well.
 use crate::Erasures;
 use crate::Run;
 ghost use mathlib.Core.Path.{_≡_};
 ghost use Prim.Native.Nat.{ℕ, _+_, _*_, _/_, _<_, _≤_, min};
-ghost use lib.ListN.{length, replicate};
+ghost use lib.ListN.{length};
 ghost use Rattle.line.specs.Line.{Codeword};
 ghost use Rattle.line.specs.Run.{Inside, lineAt};
 ghost use Rattle.span.specs.Decision.{Decides};
-ghost use Rattle.line.specs.Inner.Wide.{Tails, One, Four};
+ghost use Rattle.line.specs.Inner.Wide.{Empty, Tails, One, Four};
 ghost use Rattle.line.specs.Inner.Block.{Syndromes, Combined, Combining, AllZero};
 
 // Writes both erasures of each line of `run` from the syndromes of the lines of `read`.
@@ -33,8 +34,8 @@ pub(crate) fn codewords(s: &[u8], reduction: u8, run: Run) -> bool
 }
 
 // Both syndromes of each line of a block, by Horner's rule from the far end; s0 and s1 come in as zeros.
-pub(crate) fn syndromes(s: &[u8], s0: &mut [u8; 4096], s1: &mut [u8; 4096], reduction: u8, run: Run)
-    requires { ⌜ (Inside run (length (now s))) × (run .width ≤ 4096) × (now s0 ≡ replicate 4096 0) × (now s1 ≡ replicate 4096 0) ⌝ }
+pub(crate) fn syndromes(s: &[u8], s0: &mut [u8], s1: &mut [u8], reduction: u8, run: Run)
+    requires { ⌜ (Inside run (length (now s))) × Empty (run .width) (now s0) × Empty (run .width) (now s1) ⌝ }
     ensures { λ r. ⌜ Syndromes reduction run (now (s .entry)) (now (s0 .exit)) (now (s1 .exit)) ⌝ }
 {
     ones(s, s0, s1, reduction, run);
@@ -42,9 +43,9 @@ pub(crate) fn syndromes(s: &[u8], s0: &mut [u8; 4096], s1: &mut [u8; 4096], redu
 }
 
 // The places past the last multiple of four, of which there are at most three.
-fn ones(s: &[u8], s0: &mut [u8; 4096], s1: &mut [u8; 4096], reduction: u8, run: Run)
-    requires { ⌜ (Inside run (length (now s))) × (run .width ≤ 4096) × (Tails 4096 reduction run (run .len) (now s) (now s0) (now s1)) ⌝ }
-    ensures { λ r. ⌜ Tails 4096 reduction run (run .len / 4 * 4) (now (s .entry)) (now (s0 .exit)) (now (s1 .exit)) ⌝ }
+fn ones(s: &[u8], s0: &mut [u8], s1: &mut [u8], reduction: u8, run: Run)
+    requires { ⌜ (Inside run (length (now s))) × (Tails reduction run (run .len) (now s) (now s0) (now s1)) ⌝ }
+    ensures { λ r. ⌜ Tails reduction run (run .len / 4 * 4) (now (s .entry)) (now (s0 .exit)) (now (s1 .exit)) ⌝ }
 {
     let left = run.len / 4 * 4;
     one_below(s, s0, s1, reduction, run, left + 2);
@@ -55,14 +56,14 @@ fn ones(s: &[u8], s0: &mut [u8; 4096], s1: &mut [u8; 4096], reduction: u8, run: 
 // A step by a place that the lines may be too short for.
 fn one_below(
     s: &[u8],
-    s0: &mut [u8; 4096],
-    s1: &mut [u8; 4096],
+    s0: &mut [u8],
+    s1: &mut [u8],
     reduction: u8,
     run: Run,
     left: usize,
 )
-    requires { ⌜ (Inside run (length (now s))) × (run .width ≤ 4096) × (Tails 4096 reduction run (min (left + 1) (run .len)) (now s) (now s0) (now s1)) ⌝ }
-    ensures { λ r. ⌜ Tails 4096 reduction run (min left (run .len)) (now (s .entry)) (now (s0 .exit)) (now (s1 .exit)) ⌝ }
+    requires { ⌜ (Inside run (length (now s))) × (Tails reduction run (min (left + 1) (run .len)) (now s) (now s0) (now s1)) ⌝ }
+    ensures { λ r. ⌜ Tails reduction run (min left (run .len)) (now (s .entry)) (now (s0 .exit)) (now (s1 .exit)) ⌝ }
 {
     if left < run.len {
         one(s, s0, s1, reduction, run, left);
@@ -71,9 +72,9 @@ fn one_below(
 
 // Four places a pass, so that the sums are read and written once for four. From a multiple of four (left - 1) / 4 * 4 is left - 4;
 // written so, the compiler does not see a fixed step downwards, for which it would give up the vector form of the inner loop.
-fn fours(s: &[u8], s0: &mut [u8; 4096], s1: &mut [u8; 4096], reduction: u8, run: Run)
-    requires { ⌜ (Inside run (length (now s))) × (run .width ≤ 4096) × (Tails 4096 reduction run (run .len / 4 * 4) (now s) (now s0) (now s1)) ⌝ }
-    ensures { λ r. ⌜ Tails 4096 reduction run 0 (now (s .entry)) (now (s0 .exit)) (now (s1 .exit)) ⌝ }
+fn fours(s: &[u8], s0: &mut [u8], s1: &mut [u8], reduction: u8, run: Run)
+    requires { ⌜ (Inside run (length (now s))) × (Tails reduction run (run .len / 4 * 4) (now s) (now s0) (now s1)) ⌝ }
+    ensures { λ r. ⌜ Tails reduction run 0 (now (s .entry)) (now (s0 .exit)) (now (s1 .exit)) ⌝ }
 {
     let mut left = run.len / 4 * 4;
     while 0 < left {
@@ -82,8 +83,8 @@ fn fours(s: &[u8], s0: &mut [u8; 4096], s1: &mut [u8; 4096], reduction: u8, run:
     }
 }
 
-fn four(s: &[u8], s0: &mut [u8; 4096], s1: &mut [u8; 4096], reduction: u8, run: Run, left: usize)
-    requires { ⌜ (Inside run (length (now s))) × (run .width ≤ 4096) × (left + 3 < run .len) × (length (now s0) ≡ 4096) × (length (now s1) ≡ 4096) ⌝ }
+fn four(s: &[u8], s0: &mut [u8], s1: &mut [u8], reduction: u8, run: Run, left: usize)
+    requires { ⌜ (Inside run (length (now s))) × (left + 3 < run .len) × (run .width ≤ length (now s0)) × (run .width ≤ length (now s1)) ⌝ }
     ensures { λ r. ⌜ Four reduction run left (now (s .entry)) (now (s0 .entry)) (now (s1 .entry)) (now (s0 .exit)) (now (s1 .exit)) ⌝ }
 {
     let stride = run.stride;
@@ -107,8 +108,8 @@ fn four(s: &[u8], s0: &mut [u8; 4096], s1: &mut [u8; 4096], reduction: u8, run: 
     }
 }
 
-fn one(s: &[u8], s0: &mut [u8; 4096], s1: &mut [u8; 4096], reduction: u8, run: Run, left: usize)
-    requires { ⌜ (Inside run (length (now s))) × (run .width ≤ 4096) × (left < run .len) × (length (now s0) ≡ 4096) × (length (now s1) ≡ 4096) ⌝ }
+fn one(s: &[u8], s0: &mut [u8], s1: &mut [u8], reduction: u8, run: Run, left: usize)
+    requires { ⌜ (Inside run (length (now s))) × (left < run .len) × (run .width ≤ length (now s0)) × (run .width ≤ length (now s1)) ⌝ }
     ensures { λ r. ⌜ One reduction run left (now (s .entry)) (now (s0 .entry)) (now (s1 .entry)) (now (s0 .exit)) (now (s1 .exit)) ⌝ }
 {
     let width = run.width;
@@ -123,8 +124,8 @@ fn one(s: &[u8], s0: &mut [u8; 4096], s1: &mut [u8; 4096], reduction: u8, run: R
 }
 
 // Writes the bytes at both erasures of each line of a block; the later one last, so that it stands where both are one.
-fn combine(s: &mut [u8], s0: &[u8; 4096], s1: &[u8; 4096], reduction: u8, run: Run, e: Erasures)
-    requires { ⌜ (Inside run (length (now s))) × (run .width ≤ 4096) × (e .j ≤ e .k) × (e .k < run .len) ⌝ }
+pub(crate) fn combine(s: &mut [u8], s0: &[u8], s1: &[u8], reduction: u8, run: Run, e: Erasures)
+    requires { ⌜ (Inside run (length (now s))) × (run .width ≤ length (now s0)) × (run .width ≤ length (now s1)) × (e .j ≤ e .k) × (e .k < run .len) ⌝ }
     ensures { λ r. ⌜ Combined reduction run e (now (s0 .entry)) (now (s1 .entry)) (now (s .entry)) (now (s .exit)) ⌝ }
 {
     let width = run.width;
@@ -143,14 +144,14 @@ fn combine(s: &mut [u8], s0: &[u8; 4096], s1: &[u8; 4096], reduction: u8, run: R
 }
 
 // Whether both syndromes of each line are 0: the bytes are joined by or, so that no line costs a branch.
-fn all_zero(s0: &[u8; 4096], s1: &[u8; 4096], width: usize) -> bool
-    requires { ⌜ width ≤ 4096 ⌝ }
+pub(crate) fn all_zero(s0: &[u8], s1: &[u8], width: usize) -> bool
+    requires { ⌜ (width ≤ length (now s0)) × (width ≤ length (now s1)) ⌝ }
     ensures { λ r. ⌜ Decides (AllZero width (now (s0 .entry)) (now (s1 .entry))) r ⌝ }
 {
     let mut any: u8 = 0;
     let mut t = 0;
     while t < width {
-        any = any | s0[t] | s1[t];
+        any = any | (s0[t] | s1[t]);
         t += 1;
     }
     any == 0

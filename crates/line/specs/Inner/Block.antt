@@ -1,7 +1,7 @@
 -- Runs of lines cut into blocks, and what becomes of a block: what `block` and the kernels `strip` and `wide` owe one another.
 use mathlib.Core.Path.{_≡_}
 use mathlib.Core.List.{List}
-use Prim.Native.Nat.{ℕ, _+_, _-_, _≤_, _<_, min}
+use Prim.Native.Nat.{ℕ, _+_, _-_, _*_, _≤_, _<_, min}
 use lib.ListN.{length, getD}
 use Rattle.line.specs.declared.Run.{Run}
 use Rattle.line.specs.declared.Erasures.{Erasures}
@@ -38,6 +38,10 @@ pub record Cover (run : Run) (a : ℕ) (next : Run) : Type 0 where
   pub ends : a < start + next .width
   pub few-lines : next .width ≤ 4096
   pub within : start + next .width ≤ run .width
+
+-- 64 bytes from the first byte of each place on lie inside a list of n bytes, whether or not the run has as many lines.
+unfoldable pub Roomy : Run → ℕ → Type 0
+Roomy run n = (i : ℕ) → i < run .len → run .first + run .stride * i + 64 ≤ n
 
 -- s0 and s1 hold the syndromes of the run's lines.
 pub record Syndromes (r : ℕ) (run : Run) (s s0 s1 : List ℕ) : Type 0 where

@@ -1,7 +1,7 @@
 -- Horner's rule for lines side by side, one place or four places a pass: what the functions of `wide` owe one another.
 use mathlib.Core.Path.{_≡_}
 use mathlib.Core.List.{List}
-use Prim.Native.Nat.{ℕ, _+_, _-_, _<_}
+use Prim.Native.Nat.{ℕ, _+_, _-_, _≤_, _<_}
 use lib.ListN.{length, getD}
 use Rattle.line.specs.declared.Run.{Run}
 use Rattle.line.specs.Line.{syndrome0, syndrome1}
@@ -15,10 +15,15 @@ tail0 c n left = syndrome0 (λ i. c (left + i)) (n - left)
 unfoldable pub tail1 : ℕ → (ℕ → ℕ) → ℕ → ℕ → ℕ
 tail1 r c n left = syndrome1 r (λ i. c (left + i)) (n - left)
 
--- s0 and s1, of m bytes each, hold the syndromes of the run's lines from the place `left` on.
-pub record Tails (m r : ℕ) (run : Run) (left : ℕ) (s s0 s1 : List ℕ) : Type 0 where
-  pub size0 : length s0 ≡ m
-  pub size1 : length s1 ≡ m
+-- a list with room for n bytes, which are 0
+pub record Empty (n : ℕ) (l : List ℕ) : Type 0 where
+  pub room : n ≤ length l
+  pub zero : (t : ℕ) → t < n → getD l t 0 ≡ 0
+
+-- s0 and s1 have room for the run's lines and hold their syndromes from the place `left` on.
+pub record Tails (r : ℕ) (run : Run) (left : ℕ) (s s0 s1 : List ℕ) : Type 0 where
+  pub room0 : run .width ≤ length s0
+  pub room1 : run .width ≤ length s1
   pub first : (t : ℕ) → t < run .width → getD s0 t 0 ≡ tail0 (lineAt s run t) (run .len) left
   pub second : (t : ℕ) → t < run .width → getD s1 t 0 ≡ tail1 r (lineAt s run t) (run .len) left
 

@@ -9,7 +9,7 @@ use native.Mathlib.Decide.{decLt}
 use Rattle.field.specs.Field.{add, mul}
 use Rattle.line.specs.Run.{lineAt}
 use Rattle.line.proofs.Geometry.{off-width, stride-below}
-use Rattle.line.proofs.Strips.{Strips, strips-none, strips-more}
+use Rattle.line.proofs.TwoStrips.{Strips, strips-none, strips-more}
 use Rattle.line.proofs.wide.combine.Statement.{statement}
 use Rattle.line.proofs.wide.combine.Tie as tie
 
@@ -29,7 +29,7 @@ strip-j c = c .pre .0 .fits (c .args .e .j) (omega arith)
 strip-k :
     (c : tie.Start Inv-loop μ-loop) →
     c .args .run .first + c .args .run .stride * c .args .e .k + c .args .run .width ≤ length (now (c .args .s))
-strip-k c = c .pre .0 .fits (c .args .e .k) (c .pre .3)
+strip-k c = c .pre .0 .fits (c .args .e .k) (c .pre .4)
 
 -- the two strips are one, or do not meet
 strips-apart :
@@ -46,40 +46,40 @@ strips-apart c =
     ]
 
 mul-at-j : tie.Need-mul-at-j Inv-loop μ-loop
-mul-at-j c = omega (arith, strip-j (c .before .before .before))
+mul-at-j c = omega (arith, strip-j (c .before .before .before .before .before))
 
 add-at-j : tie.Need-add-at-j Inv-loop μ-loop
-add-at-j c = omega (arith, strip-j (c .before .before .before .before))
+add-at-j c = omega (arith, strip-j (c .before .before .before .before .before .before))
 
 mul-at-k : tie.Need-mul-at-k Inv-loop μ-loop
-mul-at-k c = omega (arith, strip-k (c .before .before .before .before .before .before))
+mul-at-k c = omega (arith, strip-k (c .before .before .before .before .before .before .before .before))
 
 add-at-k : tie.Need-add-at-k Inv-loop μ-loop
-add-at-k c = omega (arith, strip-k (c .before .before .before .before .before .before .before))
+add-at-k c = omega (arith, strip-k (c .before .before .before .before .before .before .before .before .before))
 
 loop-holds : tie.Need-loop-holds Inv-loop μ-loop
 loop-holds c = (omega arith, strips-none _ _ _ _ _ _)
 
-element-copy-out-x : tie.Need-element-copy-out-x Inv-loop μ-loop
-element-copy-out-x c = omega arith
+shared-slice-read-x : tie.Need-shared-slice-read-x Inv-loop μ-loop
+shared-slice-read-x c = omega arith
 
-element-copy-out-dot : tie.Need-element-copy-out-dot Inv-loop μ-loop
-element-copy-out-dot c = omega arith
+shared-slice-read-dot : tie.Need-shared-slice-read-dot Inv-loop μ-loop
+shared-slice-read-dot c = omega arith
 
 dot-requires : tie.Need-dot-requires Inv-loop μ-loop
 dot-requires c κs = tt
 
 add-s : tie.Need-add-s Inv-loop μ-loop
-add-s c = omega (arith, strip-j (c .before .before .before .before .before .before .before .before .before .before .before .before))
+add-s c = omega (arith, strip-j (c .before .before .before .before .before .before .before .before .before .before .before .before .before .before))
 
 slice-write-s : tie.Need-slice-write-s Inv-loop μ-loop
-slice-write-s c = omega (arith, strip-j (c .before .before .before .before .before .before .before .before .before .before .before .before), c .before .before .before .before .loop .inv .1 .size)
+slice-write-s c = omega (arith, strip-j (c .before .before .before .before .before .before .before .before .before .before .before .before .before .before), c .before .before .before .before .loop .inv .1 .size)
 
 add-s-2 : tie.Need-add-s-2 Inv-loop μ-loop
-add-s-2 c = omega (arith, strip-k (c .before .before .before .before .before .before .before .before .before .before .before .before))
+add-s-2 c = omega (arith, strip-k (c .before .before .before .before .before .before .before .before .before .before .before .before .before .before))
 
 slice-write-s-2 : tie.Need-slice-write-s-2 Inv-loop μ-loop
-slice-write-s-2 c = simp length-set (omega (arith, strip-k (c .before .before .before .before .before .before .before .before .before .before .before .before), c .before .before .before .before .loop .inv .1 .size))
+slice-write-s-2 c = simp length-set (omega (arith, strip-k (c .before .before .before .before .before .before .before .before .before .before .before .before .before .before), c .before .before .before .before .loop .inv .1 .size))
 
 add-t : tie.Need-add-t Inv-loop μ-loop
 add-t c = omega arith
@@ -91,7 +91,7 @@ loop-again : tie.Need-loop-again Inv-loop μ-loop
 unfolding add
 loop-again c = (
   omega arith,
-  strips-more (c .before .before .before .before .loop .inv .1) (strips-apart (c .before .before .before .before .before .before .before .before .before .before .before .before)) (c .before .before .before .loop-test .taken) (strip-j (c .before .before .before .before .before .before .before .before .before .before .before .before)) (strip-k (c .before .before .before .before .before .before .before .before .before .before .before .before)) _ _
+  strips-more (c .before .before .before .before .loop .inv .1) (strips-apart (c .before .before .before .before .before .before .before .before .before .before .before .before .before .before)) (c .before .before .before .loop-test .taken) (strip-j (c .before .before .before .before .before .before .before .before .before .before .before .before .before .before)) (strip-k (c .before .before .before .before .before .before .before .before .before .before .before .before .before .before)) _ _
       (rw (c .dot .ensures)) (rw (c .dot .ensures)),
 )
 
@@ -101,7 +101,7 @@ same-length c = c .before .loop .inv .1 .size
 returns : tie.Need-returns Inv-loop μ-loop
 unfolding lineAt
 returns c =
-    let start = c .before .before .before .before .before .before .before .before .before in
+    let start = c .before .before .before .before .before .before .before .before .before .before .before in
     record {
       size = c .before .loop .inv .1 .size;
       kept =
@@ -125,8 +125,8 @@ combine-spec =
     mul-at-k
     add-at-k
     loop-holds
-    element-copy-out-x
-    element-copy-out-dot
+    shared-slice-read-x
+    shared-slice-read-dot
     dot-requires
     add-s
     slice-write-s

@@ -7,7 +7,7 @@ use denote.Ref.{now}
 use native.Mathlib.Nat.{mul-add}
 use Rattle.field.specs.Field.{add, xtime}
 use Rattle.line.proofs.Tails.{horner0-at, horner1-at}
-use Rattle.line.proofs.Updated.{Updated, updated-none, updated-more}
+use Rattle.strip.proofs.Updated.{Updated, updated-none, updated-more}
 use Rattle.line.proofs.wide.four.Statement.{statement}
 use Rattle.line.proofs.wide.four.Tie as tie
 
@@ -35,58 +35,58 @@ strip :
     (c : tie.Start Inv-loop μ-loop) →
     c .args .run .first + c .args .run .stride * c .args .left + c .args .run .stride * 3 + c .args .run .width ≤ length (now (c .args .s))
 strip c =
-    omega (arith, c .pre .0 .fits (c .args .left + 3) (c .pre .2), mul-add (c .args .run .stride) (c .args .left) 3)
+    omega (arith, c .pre .0 .fits (c .args .left + 3) (c .pre .1), mul-add (c .args .run .stride) (c .args .left) 3)
 
 mul-at : tie.Need-mul-at Inv-loop μ-loop
-mul-at c = omega (arith, strip (c .before))
+mul-at c = omega (arith, strip (c .before .before .before))
 
 add-at : tie.Need-add-at Inv-loop μ-loop
-add-at c = omega (arith, strip (c .before .before))
+add-at c = omega (arith, strip (c .before .before .before .before))
 
 add-at1 : tie.Need-add-at1 Inv-loop μ-loop
-add-at1 c = omega (arith, strip (c .before .before))
+add-at1 c = omega (arith, strip (c .before .before .before .before))
 
 add-at2 : tie.Need-add-at2 Inv-loop μ-loop
-add-at2 c = omega (arith, strip (c .before .before))
+add-at2 c = omega (arith, strip (c .before .before .before .before))
 
 add-at3 : tie.Need-add-at3 Inv-loop μ-loop
-add-at3 c = omega (arith, strip (c .before .before))
+add-at3 c = omega (arith, strip (c .before .before .before .before))
 
 loop-holds : tie.Need-loop-holds Inv-loop μ-loop
 loop-holds c = (omega arith, updated-none _ 0 0 _ refl, updated-none _ 0 0 _ refl)
 
 add-c0 : tie.Need-add-c0 Inv-loop μ-loop
-add-c0 c = omega (arith, strip (c .before .before .before .before))
+add-c0 c = omega (arith, strip (c .before .before .before .before .before .before))
 
 shared-slice-read-c0 : tie.Need-shared-slice-read-c0 Inv-loop μ-loop
-shared-slice-read-c0 c = omega (arith, strip (c .before .before .before .before .before))
+shared-slice-read-c0 c = omega (arith, strip (c .before .before .before .before .before .before .before))
 
 add-c1 : tie.Need-add-c1 Inv-loop μ-loop
-add-c1 c = omega (arith, strip (c .before .before .before .before .before))
+add-c1 c = omega (arith, strip (c .before .before .before .before .before .before .before))
 
 shared-slice-read-c1 : tie.Need-shared-slice-read-c1 Inv-loop μ-loop
-shared-slice-read-c1 c = omega (arith, strip (c .before .before .before .before .before .before))
+shared-slice-read-c1 c = omega (arith, strip (c .before .before .before .before .before .before .before .before))
 
 add-c2 : tie.Need-add-c2 Inv-loop μ-loop
-add-c2 c = omega (arith, strip (c .before .before .before .before .before .before))
+add-c2 c = omega (arith, strip (c .before .before .before .before .before .before .before .before))
 
 shared-slice-read-c2 : tie.Need-shared-slice-read-c2 Inv-loop μ-loop
-shared-slice-read-c2 c = omega (arith, strip (c .before .before .before .before .before .before .before))
+shared-slice-read-c2 c = omega (arith, strip (c .before .before .before .before .before .before .before .before .before))
 
 add-c3 : tie.Need-add-c3 Inv-loop μ-loop
-add-c3 c = omega (arith, strip (c .before .before .before .before .before .before .before))
+add-c3 c = omega (arith, strip (c .before .before .before .before .before .before .before .before .before))
 
 shared-slice-read-c3 : tie.Need-shared-slice-read-c3 Inv-loop μ-loop
-shared-slice-read-c3 c = omega (arith, strip (c .before .before .before .before .before .before .before .before))
+shared-slice-read-c3 c = omega (arith, strip (c .before .before .before .before .before .before .before .before .before .before))
 
-element-copy-out-s0 : tie.Need-element-copy-out-s0 Inv-loop μ-loop
-element-copy-out-s0 c = omega arith
+slice-read-s0 : tie.Need-slice-read-s0 Inv-loop μ-loop
+slice-read-s0 c = omega arith
 
-element-write-s0 : tie.Need-element-write-s0 Inv-loop μ-loop
-element-write-s0 c = omega arith
+slice-write-s0 : tie.Need-slice-write-s0 Inv-loop μ-loop
+slice-write-s0 c = omega arith
 
-element-copy-out-xtime : tie.Need-element-copy-out-xtime Inv-loop μ-loop
-element-copy-out-xtime c = omega arith
+slice-read-xtime : tie.Need-slice-read-xtime Inv-loop μ-loop
+slice-read-xtime c = omega arith
 
 xtime-requires : tie.Need-xtime-requires Inv-loop μ-loop
 xtime-requires c κs = tt
@@ -100,8 +100,8 @@ xtime-requires-3 c κs = tt
 xtime-requires-4 : tie.Need-xtime-requires-4 Inv-loop μ-loop
 xtime-requires-4 c κs = tt
 
-element-write-s1 : tie.Need-element-write-s1 Inv-loop μ-loop
-element-write-s1 c = omega arith
+slice-write-s1 : tie.Need-slice-write-s1 Inv-loop μ-loop
+slice-write-s1 c = omega arith
 
 add-t : tie.Need-add-t Inv-loop μ-loop
 add-t c = omega arith
@@ -118,13 +118,19 @@ loop-again c = (
       (rw (c .xtime4 .ensures, c .before .xtime3 .ensures, c .before .before .xtime2 .ensures, c .before .before .before .xtime .ensures)) refl,
 )
 
+same-length : tie.Need-same-length Inv-loop μ-loop
+same-length c = c .before .loop .inv .1 .size
+
+same-length-2 : tie.Need-same-length-2 Inv-loop μ-loop
+same-length-2 c = c .before .loop .inv .2 .size
+
 returns : tie.Need-returns Inv-loop μ-loop
 returns c =
     record {
       size0 = c .before .loop .inv .1 .size;
       size1 = c .before .loop .inv .2 .size;
-      first = λ t h. c .before .loop .inv .1 .done t (omega arith) (omega arith) ∙ horner0-at _ (c .before .before .before .before .args .run) _ t _;
-      second = λ t h. c .before .loop .inv .2 .done t (omega arith) (omega arith) ∙ horner1-at _ (c .before .before .before .before .args .run) _ t _ _;
+      first = λ t h. c .before .loop .inv .1 .done t (omega arith) (omega arith) ∙ horner0-at _ (c .before .before .before .before .before .before .args .run) _ t _;
+      second = λ t h. c .before .loop .inv .2 .done t (omega arith) (omega arith) ∙ horner1-at _ (c .before .before .before .before .before .before .args .run) _ t _ _;
     }
 
 pub four-spec : {M : Type 1} → statement M
@@ -147,15 +153,17 @@ four-spec =
     shared-slice-read-c2
     add-c3
     shared-slice-read-c3
-    element-copy-out-s0
-    element-write-s0
-    element-copy-out-xtime
+    slice-read-s0
+    slice-write-s0
+    slice-read-xtime
     xtime-requires
     xtime-requires-2
     xtime-requires-3
     xtime-requires-4
-    element-write-s1
+    slice-write-s1
     add-t
     loop-less
     loop-again
+    same-length
+    same-length-2
     returns)

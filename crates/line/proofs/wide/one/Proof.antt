@@ -6,7 +6,7 @@ use lib.ListN.{length, getD}
 use denote.Ref.{now}
 use Rattle.field.specs.Field.{add, xtime}
 use Rattle.line.specs.Run.{lineAt}
-use Rattle.line.proofs.Updated.{Updated, updated-none, updated-more}
+use Rattle.strip.proofs.Updated.{Updated, updated-none, updated-more}
 use Rattle.line.proofs.wide.one.Statement.{statement}
 use Rattle.line.proofs.wide.one.Tie as tie
 
@@ -23,37 +23,37 @@ abbrev μ-loop : tie.MeasureT-loop
 strip :
     (c : tie.Start Inv-loop μ-loop) →
     c .args .run .first + c .args .run .stride * c .args .left + c .args .run .width ≤ length (now (c .args .s))
-strip c = c .pre .0 .fits (c .args .left) (c .pre .2)
+strip c = c .pre .0 .fits (c .args .left) (c .pre .1)
 
 mul-at : tie.Need-mul-at Inv-loop μ-loop
-mul-at c = omega (arith, strip (c .before .before))
+mul-at c = omega (arith, strip (c .before .before .before .before))
 
 add-at : tie.Need-add-at Inv-loop μ-loop
-add-at c = omega (arith, strip (c .before .before .before))
+add-at c = omega (arith, strip (c .before .before .before .before .before))
 
 loop-holds : tie.Need-loop-holds Inv-loop μ-loop
 loop-holds c = (omega arith, updated-none _ 0 0 _ refl, updated-none _ 0 0 _ refl)
 
 add-c : tie.Need-add-c Inv-loop μ-loop
-add-c c = omega (arith, strip (c .before .before .before .before .before))
+add-c c = omega (arith, strip (c .before .before .before .before .before .before .before))
 
 shared-slice-read-c : tie.Need-shared-slice-read-c Inv-loop μ-loop
-shared-slice-read-c c = omega (arith, strip (c .before .before .before .before .before .before))
+shared-slice-read-c c = omega (arith, strip (c .before .before .before .before .before .before .before .before))
 
-element-copy-out-s0 : tie.Need-element-copy-out-s0 Inv-loop μ-loop
-element-copy-out-s0 c = omega arith
+slice-read-s0 : tie.Need-slice-read-s0 Inv-loop μ-loop
+slice-read-s0 c = omega arith
 
-element-write-s0 : tie.Need-element-write-s0 Inv-loop μ-loop
-element-write-s0 c = omega arith
+slice-write-s0 : tie.Need-slice-write-s0 Inv-loop μ-loop
+slice-write-s0 c = omega arith
 
-element-copy-out-xtime : tie.Need-element-copy-out-xtime Inv-loop μ-loop
-element-copy-out-xtime c = omega arith
+slice-read-xtime : tie.Need-slice-read-xtime Inv-loop μ-loop
+slice-read-xtime c = omega arith
 
 xtime-requires : tie.Need-xtime-requires Inv-loop μ-loop
 xtime-requires c κs = tt
 
-element-write-s1 : tie.Need-element-write-s1 Inv-loop μ-loop
-element-write-s1 c = omega arith
+slice-write-s1 : tie.Need-slice-write-s1 Inv-loop μ-loop
+slice-write-s1 c = omega arith
 
 add-t : tie.Need-add-t Inv-loop μ-loop
 add-t c = omega arith
@@ -69,6 +69,12 @@ loop-again c = (
   updated-more (c .before .before .before .before .before .loop .inv .2) _ _ (omega arith) (omega arith)
       (rw (c .xtime .ensures)) refl,
 )
+
+same-length : tie.Need-same-length Inv-loop μ-loop
+same-length c = c .before .loop .inv .1 .size
+
+same-length-2 : tie.Need-same-length-2 Inv-loop μ-loop
+same-length-2 c = c .before .loop .inv .2 .size
 
 returns : tie.Need-returns Inv-loop μ-loop
 unfolding lineAt
@@ -91,12 +97,14 @@ one-spec =
     loop-holds
     add-c
     shared-slice-read-c
-    element-copy-out-s0
-    element-write-s0
-    element-copy-out-xtime
+    slice-read-s0
+    slice-write-s0
+    slice-read-xtime
     xtime-requires
-    element-write-s1
+    slice-write-s1
     add-t
     loop-less
     loop-again
+    same-length
+    same-length-2
     returns)

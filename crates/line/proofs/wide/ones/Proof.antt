@@ -12,19 +12,25 @@ add-one-below : tie.Need-add-one-below
 add-one-below c = search needs
 
 one-below-requires : tie.Need-one-below-requires
-one-below-requires c κs = (c .before .before .before .before .pre .0, c .before .before .before .before .pre .1, tails-at _ _ (omega arith) (c .before .before .before .before .pre .2))
+one-below-requires c κs = (c .before .before .before .before .before .before .pre .0, tails-at _ _ (omega arith) (c .before .before .before .before .before .before .pre .1))
 
 add-one-below-2 : tie.Need-add-one-below-2
 add-one-below-2 c = search needs
 
 one-below-requires-2 : tie.Need-one-below-requires-2
-one-below-requires-2 c κs = (c .before .before .before .before .before .before .before .pre .0, c .before .before .before .before .before .before .before .pre .1, tails-at _ _ (omega arith) (c .before .before .one-below .ensures))
+one-below-requires-2 c κs = (c .before .before .before .before .before .before .before .before .before .before .before .before .before .pre .0, tails-at _ _ (omega arith) (c .before .before .before .before .before .before .one-below .ensures))
 
 one-below-requires-3 : tie.Need-one-below-requires-3
 one-below-requires-3 c κs = search needs
 
+same-length : tie.Need-same-length
+same-length c = search needs
+
+same-length-2 : tie.Need-same-length-2
+same-length-2 c = search needs
+
 returns : tie.Need-returns
-returns c = tails-at _ _ (omega arith) (c .one-below3 .ensures)
+returns c = tails-at _ _ (omega arith) (c .before .before .before .before .one-below3 .ensures)
 
 pub ones-spec : {M : Type 1} → statement M
 ones-spec =
@@ -36,4 +42,6 @@ ones-spec =
     add-one-below-2
     one-below-requires-2
     one-below-requires-3
+    same-length
+    same-length-2
     returns)

@@ -1,0 +1,2 @@
+-- Why the crate `strip` meets its contracts. Updated: a list written byte by byte.
+pub mod Updated

@@ -1,0 +1,2 @@
+-- What a reader of the crate `strip` must believe.
+pub mod Strip
