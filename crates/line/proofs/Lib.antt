@@ -12,7 +12,7 @@ pub mod Error
 -- Zeros: all syndromes 0. Rows: erasures with their row. Parts: a run block by block. Solving, Correction and Encoding: a block's erasures,
 -- its errors, its parity.
 mod TwoStrips
-mod Tails
+pub mod Tails
 mod Zeros
 mod Rows
 mod Parts

@@ -15,10 +15,10 @@ use Rattle.line.specs.Inner.Block.{Syndromes}
 use Rattle.strip.specs.Strip.{Step}
 use Rattle.line.proofs.Syndrome.{tail0-end, tail1-end, tail0-step, tail1-step, tail0-whole, tail1-whole}
 
-step0 : (c : ℕ → ℕ) (n i next : ℕ) → next ≡ i + 1 → i < n → add (tail0 c n next) (c i) ≡ tail0 c n i
+pub step0 : (c : ℕ → ℕ) (n i next : ℕ) → next ≡ i + 1 → i < n → add (tail0 c n next) (c i) ≡ tail0 c n i
 step0 c n i next e h = add-comm (tail0 c n next) (c i) ∙ rw e (sym (tail0-step c n i h))
 
-step1 :
+pub step1 :
     (r : ℕ) (c : ℕ → ℕ) (n i next : ℕ) → r < 256 → c i < 256 → next ≡ i + 1 → i < n →
     add (xtime r (tail1 r c n next)) (c i) ≡ tail1 r c n i
 step1 r c n i next fits byte e h =

@@ -1,0 +1,3 @@
+-- What a reader of the crate `rows` must believe is `Rows`. Inner is what its private functions owe one another.
+pub mod Rows
+pub mod Inner
