@@ -126,7 +126,7 @@ pub record Begins (sh : Shape) (axis m : ℕ) (l : Line) : Type 0 where
   pub stride-small : l .stride * sh .w ≤ 268435456
   pub next-small : m + l .stride ≤ 268435456
 
-begins-block : (sh : Shape) (axis b : ℕ) → Valid sh → 1 ≤ axis → axis ≤ 3 → b * strideOf sh axis < linesOf sh axis
+pub begins-block : (sh : Shape) (axis b : ℕ) → Valid sh → 1 ≤ axis → axis ≤ 3 → b * strideOf sh axis < linesOf sh axis
     → Begins sh axis (b * strideOf sh axis)
     (record { first = b * (strideOf sh axis * lengthOf sh axis); stride = strideOf sh axis; len = lengthOf sh axis })
 unfolding lineBeside runFrom firstOf

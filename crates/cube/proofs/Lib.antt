@@ -6,6 +6,7 @@ pub mod Axes
 pub mod RoundTrip
 pub mod AxisRuns
 pub mod RightLines
+mod RightRows
 pub mod Bytes
 pub mod Lending
 pub mod Completing

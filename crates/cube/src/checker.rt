@@ -44,29 +44,22 @@ fn planes_right(cube: &[u8], reduction: u8, sh: Shape) -> bool
     true
 }
 
-// The lines m to m + stride - 1 of an axis lie side by side, so they are one run.
+// The lines m to m + stride - 1 of an axis lie side by side, so they are one run; the runs stand one behind the other.
 fn lines_right(cube: &[u8], reduction: u8, sh: Shape, axis: usize, from: usize, to: usize) -> bool
     requires { ⌜ Valid sh × (length (now cube) ≡ sh .w * cells sh) × (1 ≤ axis) × (axis ≤ 3) × Blocks sh axis from to ⌝ }
     ensures { λ r. ⌜ Decides (LinesRight reduction sh axis from to (now (cube .entry))) r ⌝ }
 {
+    let found = shape::axis_line(sh, axis, from);
+    let LineAnswer::Found(l) = found else {
+        return true;
+    };
     let w = sh.w;
-    let mut m = from;
-    while m < to {
-        let found = shape::axis_line(sh, axis, m);
-        let LineAnswer::Found(l) = found else {
-            return false;
-        };
-        let stride = l.stride;
-        let run = Run {
-            first: l.first * w,
-            stride: stride * w,
-            len: l.len,
-            width: stride * w,
-        };
-        if !line::codewords(cube, reduction, run) {
-            return false;
-        }
-        m += stride;
-    }
-    true
+    let stride = l.stride;
+    let run = Run {
+        first: l.first * w,
+        stride: stride * w,
+        len: l.len,
+        width: stride * w,
+    };
+    rows::codewords(cube, reduction, run, stride * w * l.len, (to - from) / stride)
 }
