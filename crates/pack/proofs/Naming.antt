@@ -47,9 +47,6 @@ limits-true sh i l =
     both-true _ _ (le-leb _ _ (l .l1-high)) (both-true _ _ (le-leb _ _ (l .l2-high)) (both-true _ _ (le-leb _ _ (l .w-high)) (lt-ltb i 4294967296 (l .index))))
 
 -- the products of the limits fit a machine word
-pub ahead-le : (sh : Shape) (i : ℕ) → Limits sh i → i * (3 + sh .w) ≤ 4410931411965
-ahead-le sh i l = packets-le i (sh .w) (l .index) (l .w-high)
-
 pub cell-small : (l2 b c : ℕ) → l2 ≤ 255 → b < 256 → c < 256 → l2 * c ≤ 65025
 cell-small l2 b c h p q = let m : c ≤ 255 = omega arith in mul-le-mul h m
 

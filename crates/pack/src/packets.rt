@@ -7,7 +7,7 @@ use cursor::wide;
 use shape::Shape;
 ghost use mathlib.Core.Path.{_≡_};
 ghost use mathlib.Core.Bool.{true, false};
-ghost use Prim.Native.Nat.{_+_, _≤_, _<_};
+ghost use Prim.Native.Nat.{_+_, _*_, _≤_, _<_};
 ghost use Rattle.pack.specs.Packets.{PacketOutcome, PartsOutcome, FirstOutside};
 ghost use Rattle.pack.specs.Inner.Packets.{withinLimits, namedBy};
 
@@ -48,11 +48,10 @@ pub fn packet_parts(pack: &[u8], h: Header, s: Section, i: usize) -> PartsRead
         return PartsRead::Absent;
     }
     let size = 3 + sh.w;
-    let ahead = i * size;
-    if !lies_in(pack.len(), s.at, ahead, size) {
+    if !lies_in(pack.len(), s.at, i, size) {
         return PartsRead::Absent;
     }
-    let at = s.at + ahead;
+    let at = s.at + i * size;
     PartsRead::Parts(pack[at], pack[at + 1], pack[at + 2], at + 3)
 }
 
@@ -62,18 +61,15 @@ fn within_limits(sh: Shape, i: usize) -> bool
     sh.l1 <= 255 && (sh.l2 <= 255 && (sh.w <= 1024 && i < 4294967296))
 }
 
-// Whether a packet lies in the pack that begins so many bytes ahead of a place. The differences avoid a sum that could wrap.
-fn lies_in(len: usize, at: usize, ahead: usize, size: usize) -> bool
-    ensures { λ r. ⌜ (r ≡ true → at + ahead + size ≤ len) × (r ≡ false → len < at + ahead + size) ⌝ }
+// Whether packet i of those from a place on lies in the pack. In a loop over packets the quotient is taken once, and one comparison a packet is left.
+fn lies_in(len: usize, at: usize, i: usize, size: usize) -> bool
+    requires { ⌜ 0 < size ⌝ }
+    ensures { λ r. ⌜ (r ≡ true → at + i * size + size ≤ len) × (r ≡ false → len < at + i * size + size) ⌝ }
 {
     if len < at {
         return false;
     }
-    let room = len - at;
-    if room < ahead {
-        return false;
-    }
-    size <= room - ahead
+    i < (len - at) / size
 }
 
 // The cell that a, b and c name: 11 is asked of them.

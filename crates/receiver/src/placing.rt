@@ -3,8 +3,9 @@ use pack::Header;
 use pack::PacketRead;
 use pack::Section;
 ghost use mathlib.Core.Path.{_≡_};
-ghost use Prim.Native.Nat.{ℕ, _*_, _<_};
+ghost use Prim.Native.Nat.{ℕ, _+_, _*_, _<_, _≤_};
 ghost use lib.ListN.{length, replicate};
+ghost use Rattle.span.specs.Span.{Copied};
 ghost use Rattle.shape.specs.Shapes.{Valid, cells};
 ghost use Rattle.pack.specs.Packets.{source, Named};
 ghost use Rattle.receiver.specs.declared.placing.Placing.the-variants.{Differs};
@@ -80,7 +81,7 @@ fn place_packet(
         return Arrival::Other;
     };
     if flags[m] == 1 {
-        span::copy(air, cube, from, m * w, w);
+        put(air, cube, from, m * w, w);
         flags[m] = 0;
         return Arrival::Agrees(0);
     }
@@ -88,4 +89,16 @@ fn place_packet(
         return Arrival::Agrees(1);
     }
     Arrival::Other
+}
+
+// Copies a packet's bytes to its cell. A single byte, where the copy costs more than the byte, is taken by itself.
+fn put(air: &[u8], cube: &mut [u8], from: usize, to: usize, w: usize)
+    requires { ⌜ (from + w ≤ length (now air)) × (to + w ≤ length (now cube)) ⌝ }
+    ensures { λ r. ⌜ Copied (now (air .entry)) from (now (cube .entry)) to w (now (cube .exit)) ⌝ }
+{
+    if w == 1 {
+        cube[to] = air[from];
+    } else {
+        span::copy(air, cube, from, to, w);
+    }
 }

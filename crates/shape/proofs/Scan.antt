@@ -1,24 +1,64 @@
--- A test of every element of a list, as a loop makes it: what is left to test decides.
-use mathlib.Core.Path.{_≡_, ap, _∙_}
-use mathlib.Core.Bool.{Bool, true, false}
+-- A test of every element of a list, as a loop makes it that joins the elements by or: what was found and what is left to test decide.
+use mathlib.Core.Path.{_≡_, refl, sym, ap, _∙_}
+use mathlib.Core.Bool.{Bool, true, false, not}
+use mathlib.Core.Logic.{_⊎_, _≢_, inl, inr}
 use mathlib.Core.List.{List, [], _∷_}
 use Prim.Native.Nat.{ℕ, _+_, _≤_, _<_}
 use native.Mathlib.Numerals.{add-one}
+use native.Mathlib.Decide.{decLe}
+use native.Mathlib.Omega.{arith}
+use borrow.Author.Tests.{le-leb, lt-leb, ne-eqb}
+use lib.Bits.{bitOr, or-lt, or-add-and, or-zero-r, and-le-l, and-le-r}
+use lib.Dec.{leb, eqb}
 use lib.ListN.{length, getD, drop, drop-of-length-le}
 use lib.Seq.{drop-cons}
 use Rattle.shape.specs.Shapes.{both}
+
+both-assoc : (a b c : Bool) → both a (both b c) ≡ both (both a b) c
+unfolding both
+both-assoc true b c = refl
+both-assoc false b c = refl
+
+both-true : (a : Bool) → both a true ≡ a
+unfolding both
+both-true true = refl
+both-true false = refl
+
+both-false : (a : Bool) → both a false ≡ false
+unfolding both
+both-false true = refl
+both-false false = refl
+
+or-above : (a b : ℕ) → (a ≤ bitOr a b) × (b ≤ bitOr a b)
+or-above a b = (omega (arith, or-add-and a b, and-le-r a b), omega (arith, or-add-and a b, and-le-l a b))
+
+-- two numbers joined by or are at most 1 exactly when both are
+pub or-le : (a b : ℕ) → leb (bitOr a b) 1 ≡ both (leb a 1) (leb b 1)
+unfolding both
+or-le a b =
+    elim (decLe a 1) [
+      | yes p ↦
+          elim (decLe b 1) [
+            | yes q ↦ let low : bitOr a b < 2 = or-lt 1 a b (omega arith) (omega arith) in rw (le-leb (bitOr a b) 1 (omega arith), le-leb a 1 p, le-leb b 1 q)
+            | no q ↦ rw (lt-leb (bitOr a b) 1 (omega (arith, or-above a b)), le-leb a 1 p, lt-leb b 1 (omega arith))
+          ]
+      | no p ↦ rw (lt-leb (bitOr a b) 1 (omega (arith, or-above a b)), lt-leb a 1 (omega arith))
+    ]
+
+-- a number joined with the mark of a flag is 0 exactly when it is and the flag is not 1
+pub or-mark : (any flag m : ℕ) → ((flag ≡ 1) × (m ≡ 1)) ⊎ ((flag ≢ 1) × (m ≡ 0)) → eqb (bitOr any m) 0 ≡ both (eqb any 0) (not (eqb flag 1))
+or-mark any flag m (inl (one, e)) =
+    rw (e, one) (ne-eqb (bitOr any 1) 0 (λ z. omega (arith, or-above any 1)) ∙ sym (both-false (eqb any 0)))
+or-mark any flag m (inr (other, e)) = rw (e, or-zero-r any, ne-eqb flag 1 other) (sym (both-true (eqb any 0)))
 
 module _ (every : List ℕ → Bool) (test : ℕ → Bool) (at-end : every [] ≡ true) (at-cons : (x : ℕ) (xs : List ℕ) → every (x ∷ xs) ≡ both (test x) (every xs)) where
   scan-one : (xs : List ℕ) (n : ℕ) → n < length xs → every (drop n xs) ≡ both (test (getD xs n 0)) (every (drop (n + 1) xs))
   scan-one xs n l = rw (add-one, drop-cons xs n 0 l) (at-cons _ _)
 
-  pub scan-passed : (xs : List ℕ) (n : ℕ) → n < length xs → test (getD xs n 0) ≡ true → every (drop n xs) ≡ every (drop (n + 1) xs)
-  unfolding both
-  scan-passed xs n l e = scan-one xs n l ∙ rw e
+  -- one element more is tested, and joined to what the test said of those before
+  pub scan-joined : (xs : List ℕ) (n : ℕ) → n < length xs → (so next : Bool) → next ≡ both so (test (getD xs n 0)) →
+      both so (every (drop n xs)) ≡ both next (every (drop (n + 1) xs))
+  scan-joined xs n l so next e = ap (both so) (scan-one xs n l) ∙ both-assoc so _ _ ∙ ap (λ (b : Bool). both b (every (drop (n + 1) xs))) (sym e)
 
-  pub scan-failed : (xs : List ℕ) (n : ℕ) → n < length xs → test (getD xs n 0) ≡ false → every (drop n xs) ≡ false
-  unfolding both
-  scan-failed xs n l e = scan-one xs n l ∙ rw e
-
-  pub scan-ended : (xs : List ℕ) (n : ℕ) → length xs ≤ n → every (drop n xs) ≡ true
-  scan-ended xs n l = ap every (drop-of-length-le xs l) ∙ at-end
+  pub scan-ended : (xs : List ℕ) (n : ℕ) → length xs ≤ n → (so : Bool) → both so (every (drop n xs)) ≡ so
+  scan-ended xs n l so = ap (both so) (ap every (drop-of-length-le xs l) ∙ at-end) ∙ both-true so

@@ -52,13 +52,15 @@ returns c =
 slice-read-if1 : tie.Need-slice-read-if1
 slice-read-if1 c = inside (c .before .before) .0
 
-mul-copy : tie.Need-mul-copy
-mul-copy c =
+mul-put : tie.Need-mul-put
+mul-put c =
     let k = c .before .before .before .before in
     omega (arith, inside k, start k .pre .2 .cube-size, start k .pre .0 .volume)
 
-copy-requires : tie.Need-copy-requires
-copy-requires c κs = search needs
+put-requires : tie.Need-put-requires
+put-requires c κs =
+    let k = c .before .before .before .before in
+    (told k .inside, inside k .1)
 
 slice-write-flags : tie.Need-slice-write-flags
 slice-write-flags c = inside (c .before .before .before .before .before .before .before) .0
@@ -73,7 +75,7 @@ returns-2 : tie.Need-returns-2
 returns-2 c =
     let k = c .before .before .before .before .before .before .before in
     placed-first _ _ _ _ _ (start k .pre .2) _ (told k .cell) (below k) _ _ (λ w l. told k .byte w) _ (c .before .before .before .before .if1 .taken)
-    (c .before .before .copy .ensures .done (told k .inside, inside k .1) .1)
+    (c .before .before .put .ensures)
 
 mul-same : tie.Need-mul-same
 mul-same c =
@@ -110,8 +112,8 @@ place-packet-spec =
     enum-told
     returns
     slice-read-if1
-    mul-copy
-    copy-requires
+    mul-put
+    put-requires
     slice-write-flags
     same-length
     same-length-2
