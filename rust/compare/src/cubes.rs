@@ -1,6 +1,7 @@
-//! Random code cubes, and patterns of cells inside them.
+//! Random code cubes, and patterns of cells and bytes inside them.
 
 use jibrufath::Shape;
+use reference::field::{inverse, mul, pow};
 use reference::random::Random;
 
 use crate::twin;
@@ -11,6 +12,30 @@ pub fn random_code_cube(random: &mut Random, shape: Shape) -> Vec<u8> {
     let mut cube = vec![0; twin(shape).cube_bytes()];
     reference::encode(twin(shape), &data, &mut cube).expect("the shape is good");
     cube
+}
+
+/// The cells of a box of random places along each axis: `sizes` of them.
+pub fn random_box(random: &mut Random, shape: Shape, sizes: [usize; 3]) -> Vec<usize> {
+    let lengths = twin(shape).lengths;
+    let places: Vec<Vec<usize>> = (0..3)
+        .map(|axis| random.different(sizes[axis].min(lengths[axis]), lengths[axis]))
+        .collect();
+    let mut cells = Vec::new();
+    for &c in &places[2] {
+        for &b in &places[1] {
+            for &a in &places[0] {
+                cells.push(twin(shape).cell([a, b, c]));
+            }
+        }
+    }
+    cells
+}
+
+/// Three bytes that make a right line at the three places, the rest 00h.
+pub fn lightest_line(places: &[usize]) -> [u8; 3] {
+    let [i, j, k] = [0, 1, 2].map(|at| pow(places[at]));
+    let scale = inverse(i ^ j).expect("the places differ");
+    [mul(j ^ k, scale), mul(i ^ k, scale), 1]
 }
 
 /// A pattern of cells in a box, put at random coordinates of a shape, with the axes in random order.

@@ -3,7 +3,9 @@
 
 mod agreement;
 mod cubes;
+mod fill_trial;
 mod packs;
+pub mod patterns;
 mod shapes;
 mod text_trial;
 mod texts;
@@ -11,9 +13,10 @@ mod trial;
 
 use agreement::compare;
 pub use agreement::{Agreed, agree, numbered, placed};
-pub use cubes::{Embedded, random_code_cube};
+pub use cubes::{Embedded, lightest_line, random_box, random_code_cube};
+pub use fill_trial::FillTrial;
 pub use packs::{KINDS, Source};
-pub use shapes::{LARGE_SHAPES, SHAPES_AT_THE_LIMITS, random_shape, twin};
+pub use shapes::{LARGE_SHAPES, SHAPES_AT_THE_LIMITS, narrow_shapes, random_shape, twin};
 pub use text_trial::{FromText, ToText};
 pub use texts::{TEXT_KINDS, broken_words};
 pub use trial::{Answers, Lens, Trial};

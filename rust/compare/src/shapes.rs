@@ -41,6 +41,12 @@ pub fn random_shape(random: &mut Random) -> Shape {
     Shape::new(lengths[0], lengths[1], lengths[2], w)
 }
 
+/// Small cubes, and cubes with more than 64 rows, columns or planes, of every width up to 65 bytes.
+pub fn narrow_shapes() -> impl Iterator<Item = Shape> {
+    let lengths = [[3, 3, 3], [5, 4, 6], [4, 67, 3], [66, 3, 4], [3, 4, 70]];
+    (1..=65).flat_map(move |w| lengths.map(|[l1, l2, l3]| Shape::new(l1, l2, l3, w)))
+}
+
 /// The same shape for the independent program.
 pub fn twin(shape: Shape) -> reference::Shape {
     reference::Shape::new(shape.l1, shape.l2, shape.l3, shape.w)

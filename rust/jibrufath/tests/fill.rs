@@ -1,71 +1,12 @@
 //! Filling compared with the independent program: answer, cube and flags, with garbage in missing cells.
 
 use compare::{
-    Embedded, LARGE_SHAPES, SHAPES_AT_THE_LIMITS, agree, numbered, random_code_cube, random_shape,
-    twin,
+    Embedded, FillTrial as Trial, LARGE_SHAPES, SHAPES_AT_THE_LIMITS, agree, narrow_shapes,
+    numbered, random_shape, twin,
 };
 use jibrufath::{Shape, fill};
+use reference::full_sweeps;
 use reference::random::Random;
-
-/// A cube and its flags, before a call.
-struct Trial {
-    shape: Shape,
-    cube: Vec<u8>,
-    flags: Vec<u8>,
-}
-
-impl Trial {
-    /// A random code cube with no cell missing.
-    fn new(random: &mut Random, shape: Shape) -> Trial {
-        let cube = random_code_cube(random, shape);
-        let flags = vec![0; twin(shape).cells()];
-        Trial { shape, cube, flags }
-    }
-
-    /// A random code cube without the cells of the pattern.
-    fn without(random: &mut Random, pattern: &Embedded) -> Trial {
-        let mut trial = Trial::new(random, pattern.shape);
-        for &cell in &pattern.cells {
-            trial.lose(random, cell);
-        }
-        trial
-    }
-
-    /// Makes a cell missing, with garbage for its bytes.
-    fn lose(&mut self, random: &mut Random, cell: usize) {
-        self.flags[cell] = 1;
-        let garbage = random.bytes(self.shape.w);
-        self.cube[twin(self.shape).bytes(cell)].copy_from_slice(&garbage);
-    }
-
-    /// Makes each cell missing with this chance.
-    fn lose_percent(&mut self, random: &mut Random, percent: usize) {
-        for cell in 0..self.flags.len() {
-            if random.chance(percent) {
-                self.lose(random, cell);
-            }
-        }
-    }
-
-    /// Adds to one byte of a cell, in a random layer.
-    fn spoil(&mut self, random: &mut Random, cell: usize) {
-        let layer = random.among(0..=self.shape.w - 1);
-        self.cube[cell * self.shape.w + layer] ^= random.nonzero_byte();
-    }
-
-    /// Runs both programs, compares all that they leave, and hands back the answer.
-    fn compare(&self, random: &mut Random) -> Result<usize, u8> {
-        let shape = self.shape;
-        agree(
-            &format!("{shape:?}"),
-            random,
-            [&self.cube, &self.flags],
-            |[cube, flags]| numbered(fill(shape, cube, flags)),
-            |[cube, flags]| reference::fill(twin(shape), cube, flags),
-        )
-        .answer
-    }
-}
 
 /// A stopping set that is a whole box.
 fn block(random: &mut Random) -> Embedded {
@@ -124,6 +65,28 @@ fn losses_and_wrong_bytes() {
             Ok(0) => seen[0] += 1,
             Ok(_) => seen[1] += 1,
             Err(_) => seen[2] += 1,
+        }
+    }
+    assert!(seen.iter().all(|&count| count > 100), "{seen:?}");
+}
+
+#[test]
+fn every_narrow_width() {
+    let mut random = Random::new(3017);
+    let mut seen = [0; 3];
+    for (case, shape) in narrow_shapes().enumerate() {
+        for percent in [0, 5, 30, 90] {
+            let mut trial = Trial::new(&mut random, shape);
+            trial.lose_percent(&mut random, percent);
+            if case % 3 == 0 {
+                let cell = random.among(0..=trial.flags.len() - 1);
+                trial.spoil(&mut random, cell);
+            }
+            match trial.compare(&mut random) {
+                Ok(0) => seen[0] += 1,
+                Ok(_) => seen[1] += 1,
+                Err(_) => seen[2] += 1,
+            }
         }
     }
     assert!(seen.iter().all(|&count| count > 100), "{seen:?}");
@@ -302,31 +265,8 @@ fn wrong_byte_on_one_line_that_misses_the_stopping_set() {
     }
 }
 
-/// The number of passes along one axis, 1, 2, 3 and again, until nothing is missing; none if that does not happen.
-fn passes(shape: Shape, flags: &[u8]) -> Option<usize> {
-    let mut flags = flags.to_vec();
-    let mut idle = 0;
-    for pass in 0.. {
-        if flags.iter().all(|&flag| flag == 0) {
-            return Some(pass);
-        }
-        if idle == 3 {
-            break;
-        }
-        idle += 1;
-        for line in twin(shape).lines(pass % 3 + 1) {
-            let missing = line.cells().filter(|&cell| flags[cell] == 1).count();
-            if (1..=2).contains(&missing) {
-                line.cells().for_each(|cell| flags[cell] = 0);
-                idle = 0;
-            }
-        }
-    }
-    None
-}
-
 #[test]
-fn many_passes() {
+fn many_sweeps() {
     let mut random = Random::new(3012);
     for case in 0..300 {
         // Every line of the box has three cells of the pattern, or none. One known cell frees its lines, these free others,
@@ -348,7 +288,8 @@ fn many_passes() {
         let known = random.among(0..=set.cells.len() - 1);
         set.cells.swap_remove(known);
         let trial = Trial::without(&mut random, &set);
-        assert!(passes(set.shape, &trial.flags).is_some_and(|passes| passes >= 9));
+        let sweeps = full_sweeps(twin(set.shape), &trial.flags);
+        assert!(sweeps.number >= 12, "{sweeps:?}");
         assert_eq!(trial.compare(&mut random), Ok(0), "{:?}", set.shape);
     }
 }

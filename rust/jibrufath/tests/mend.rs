@@ -1,10 +1,11 @@
 //! Mending and its passes compared with the independent program: restored, refused, or another code cube.
 
 use compare::{
-    LARGE_SHAPES, SHAPES_AT_THE_LIMITS, agree, numbered, random_code_cube, random_shape, twin,
+    LARGE_SHAPES, SHAPES_AT_THE_LIMITS, agree, lightest_line, narrow_shapes, numbered, random_box,
+    random_code_cube, random_shape, twin,
 };
 use jibrufath::{Shape, mend, mend_axis};
-use reference::field::{inverse, mul, pow};
+use reference::field::{inverse, mul};
 use reference::random::Random;
 
 /// What became of a damaged cube.
@@ -69,23 +70,6 @@ fn compare_pass(random: &mut Random, shape: Shape, axis: usize, damaged: &[u8]) 
     );
 }
 
-/// The cells of a box of random places along each axis: `sizes` of them.
-fn random_box(random: &mut Random, shape: Shape, sizes: [usize; 3]) -> Vec<usize> {
-    let lengths = twin(shape).lengths;
-    let places: Vec<Vec<usize>> = (0..3)
-        .map(|axis| random.different(sizes[axis].min(lengths[axis]), lengths[axis]))
-        .collect();
-    let mut cells = Vec::new();
-    for &c in &places[2] {
-        for &b in &places[1] {
-            for &a in &places[0] {
-                cells.push(twin(shape).cell([a, b, c]));
-            }
-        }
-    }
-    cells
-}
-
 /// Adds to `count` bytes of each layer, in different cells among those given. All of a layer get the same byte, or each its own.
 fn damage(random: &mut Random, shape: Shape, cube: &mut [u8], cells: &[usize], count: usize) {
     for layer in 0..shape.w {
@@ -143,13 +127,6 @@ fn wrong_bytes_close_together() {
     assert!(tally.restored > 1_500 && tally.refused > 500, "{tally:?}");
 }
 
-/// Three bytes that make a right line at the three places, the rest 00h.
-fn lightest_line(places: &[usize]) -> [u8; 3] {
-    let [i, j, k] = [0, 1, 2].map(|at| pow(places[at]));
-    let scale = inverse(i ^ j).expect("the places differ");
-    [mul(j ^ k, scale), mul(i ^ k, scale), 1]
-}
-
 #[test]
 fn damage_that_leads_to_another_code_cube() {
     let mut random = Random::new(4003);
@@ -182,6 +159,17 @@ fn damage_that_leads_to_another_code_cube() {
         tally.count(compare(&mut random, shape, &right, &damaged));
     }
     assert_eq!(tally.other, 1_200, "{tally:?}");
+}
+
+#[test]
+fn every_narrow_width() {
+    let mut random = Random::new(4011);
+    let mut tally = Tally::default();
+    for (case, shape) in narrow_shapes().enumerate() {
+        let all: Vec<usize> = (0..twin(shape).cells()).collect();
+        tally.count(damage_and_mend(&mut random, shape, &all, case % 12));
+    }
+    assert!(tally.restored > 200 && tally.refused > 5, "{tally:?}");
 }
 
 #[test]

@@ -67,7 +67,8 @@ pub fn largest_stopping_set(shape: Shape, missing: &[bool]) -> Vec<bool> {
     }
 }
 
-fn count(line: Line, set: &[bool]) -> usize {
+/// How many cells of the line are in the set.
+pub(crate) fn count(line: Line, set: &[bool]) -> usize {
     line.cells().filter(|&cell| set[cell]).count()
 }
 

@@ -18,6 +18,7 @@ pub mod programs;
 pub mod random;
 pub mod receive;
 pub mod shape;
+pub mod sweeps;
 pub mod text;
 pub mod write;
 
@@ -27,6 +28,7 @@ pub use mend::{mend, mend_axis};
 pub use pack::needs;
 pub use receive::{Outcome, Received, Refusal, receive_pack};
 pub use shape::Shape;
+pub use sweeps::{Sweeps, full_sweeps};
 pub use text::{read_text, text_bytes, text_pack_bytes, write_text};
 pub use write::write_pack;
 
