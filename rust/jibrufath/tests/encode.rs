@@ -1,7 +1,11 @@
 //! The field, encoding, extracting and checking, compared with the independent program.
 
-use compare::{SHAPES_AT_THE_LIMITS, agree, numbered, random_shape, twin};
+use compare::{
+    SHAPES_AT_THE_LIMITS, agree, lightest_line, narrow_shapes, numbered, random_code_cube,
+    random_shape, twin,
+};
 use jibrufath::{Shape, encode, extract, field, is_code_cube};
+use reference::field::mul;
 use reference::random::Random;
 
 #[test]
@@ -88,6 +92,75 @@ fn random_cubes() {
     for _ in 0..10_000 {
         let shape = random_shape(&mut random);
         compare(&mut random, shape);
+    }
+}
+
+#[test]
+fn every_narrow_width() {
+    let mut random = Random::new(2008);
+    for shape in narrow_shapes() {
+        compare(&mut random, shape);
+    }
+}
+
+/// Cubes of narrow cells with more than 64 rows in a plane or in all, so that a check of 64 rows at a time has a rest.
+fn cubes_of_many_rows(random: &mut Random) -> Vec<(Shape, Vec<u8>)> {
+    let lengths = [
+        [3, 65, 3],
+        [4, 130, 3],
+        [65, 3, 4],
+        [3, 4, 65],
+        [5, 9, 8],
+        [3, 8, 8],
+    ];
+    let shapes = (1..=9).flat_map(|w| lengths.map(|[l1, l2, l3]| Shape::new(l1, l2, l3, w)));
+    shapes
+        .map(|shape| (shape, random_code_cube(random, shape)))
+        .collect()
+}
+
+#[test]
+fn one_wrong_byte_anywhere() {
+    let mut random = Random::new(2009);
+    for (shape, mut cube) in cubes_of_many_rows(&mut random) {
+        assert_eq!(is_code_cube(shape, &cube), Ok(true), "{shape:?}");
+        for at in 0..cube.len() {
+            let wrong = random.nonzero_byte();
+            cube[at] ^= wrong;
+            assert_eq!(is_code_cube(shape, &cube), Ok(false), "{shape:?}, {at}");
+            cube[at] ^= wrong;
+        }
+    }
+}
+
+/// Three places in succession along each of two axes, in one plane across the third, get what keeps every line of these two right: the
+/// nine lines of the third axis alone show it.
+#[test]
+fn wrong_along_one_axis_alone() {
+    let mut random = Random::new(2010);
+    for (shape, right) in cubes_of_many_rows(&mut random) {
+        let lengths = twin(shape).lengths;
+        for across in 0..3 {
+            let [one, other] = [(across + 1) % 3, (across + 2) % 3];
+            // Every row of nine in its turn, those at the end among them.
+            for first in 0..=lengths[one] - 3 {
+                let mut cube = right.clone();
+                let start = random.among(0..=lengths[other] - 3);
+                let [ones, others] = [first, start].map(|at| [at, at + 1, at + 2]);
+                let plane = random.among(0..=lengths[across] - 1);
+                let layer = random.among(0..=shape.w - 1);
+                let factor = random.nonzero_byte();
+                for (&i, x) in ones.iter().zip(lightest_line(&ones)) {
+                    for (&j, y) in others.iter().zip(lightest_line(&others)) {
+                        let mut place = [plane; 3];
+                        (place[one], place[other]) = (i, j);
+                        cube[twin(shape).cell(place) * shape.w + layer] ^= mul(factor, mul(x, y));
+                    }
+                }
+                let found = !compare_check(&mut random, shape, &cube);
+                assert!(found, "{shape:?}, across axis {}, from {first}", across + 1);
+            }
+        }
     }
 }
 
