@@ -1,6 +1,5 @@
 //! Encoding against memcpy, ISA-L and GF-Complete.
 
-use std::hint::black_box;
 use std::time::Duration;
 
 use jibrufath::{Shape, encode, extract};
@@ -9,7 +8,8 @@ use reference::random::Random;
 use crate::cube_encoder::{CubeEncoder, Order};
 use crate::gf_complete::{ALIGNMENT, GfLine};
 use crate::isal::IsalLine;
-use crate::{REFERENCE_SET, Ratio, clock, least_times};
+use crate::measure::{ROUNDS, Row, Times, beside_memcpy, milliseconds, over};
+use crate::{REFERENCE_SET, clock};
 
 /// The reference set, large cubes of other widths, and a small cube of wide cells.
 const SHAPES: [Shape; 6] = [
@@ -27,9 +27,9 @@ Encode, from a data string to the whole cube. ISA-L: ec_encode_data in its own f
 Plain: axis by axis. Best: plane by plane, as the last column says. In place: best, with the data already in the cube.
 GF-Complete: the same code and order, a product of a region for each packet; it takes W in multiples of 16 only.
 
-| shape | W | memcpy | ours / memcpy | ISA-L best / memcpy | ISA-L plain / memcpy | ISA-L in place / memcpy \
+| shape | W | memcpy | ours | ours / memcpy | ISA-L best / memcpy | ISA-L plain / memcpy | ISA-L in place / memcpy \
 | GF-Complete / memcpy | ours / ISA-L best | ISA-L's best order |
-|---|---|---|---|---|---|---|---|---|---|";
+|---|---|---|---|---|---|---|---|---|---|---|";
 
 /// One shape, with all memory that its encoders need.
 struct Encoding {
@@ -40,41 +40,45 @@ struct Encoding {
     isal: CubeEncoder<IsalLine>,
     gf_complete: CubeEncoder<GfLine>,
     best: Order,
-    /// Repetitions that make one measurement long enough.
-    repeat: usize,
 }
 
-/// Prints the table, and gives the ratios of the reference set.
-pub fn table() -> Vec<Ratio> {
+/// What is timed, in the order of the columns: GF-Complete last, since it takes only some widths.
+const WORK: [&str; 5] = [
+    "encode",
+    "encode with ISA-L, best order",
+    "encode with ISA-L, plain order",
+    "encode with ISA-L, in place",
+    "encode with GF-Complete",
+];
+
+/// Prints the table, and gives the rows of the reference set that are drawn.
+pub fn table() -> Vec<Row> {
     println!("{HEADER}");
-    let mut rows = Vec::new();
+    let mut drawn = Vec::new();
     for shape in SHAPES {
         let mut state = Encoding::new(shape);
         state.best = state.best_order();
-        let least = state.least_times();
+        let times = state.times();
         state.check();
-        let over = |a: usize, b: usize| least[a].as_secs_f64() / least[b].as_secs_f64();
-        let gf_complete = match state.aligned() {
-            true => format!("{:.2}", over(5, 0)),
-            false => "-".into(),
-        };
+        let mut rows = times.rows(WORK);
+        let mut ratios: Vec<String> = rows.iter().map(|row| format!("{:.2}", row.ratio)).collect();
+        if !state.aligned() {
+            ratios[4] = "-".into();
+        }
         let Shape { l1, l2, l3, w } = shape;
         println!(
-            "| {l1} × {l2} × {l3} | {w} | {:.2} ms | {:.2} | {:.2} | {:.2} | {:.2} | {gf_complete} | {:.2} | {} |",
-            least[0].as_secs_f64() * 1e3 / state.repeat as f64,
-            over(1, 0),
-            over(2, 0),
-            over(3, 0),
-            over(4, 0),
-            over(1, 2),
+            "| {l1} × {l2} × {l3} | {w} | {:.2} ms | {:.2} ms | {} | {:.2} | {} |",
+            milliseconds(times.memcpy),
+            rows[0].milliseconds,
+            ratios.join(" | "),
+            over(times.work[0], times.work[1]),
             state.best,
         );
         if shape == REFERENCE_SET {
-            rows.push(Ratio::new("encode", over(1, 0)));
-            rows.push(Ratio::new("encode with ISA-L, best order", over(2, 0)));
+            drawn.extend(rows.drain(..2));
         }
     }
-    rows
+    drawn
 }
 
 impl Encoding {
@@ -89,22 +93,22 @@ impl Encoding {
             isal: CubeEncoder::new(shape),
             gf_complete: CubeEncoder::new(shape),
             best: Order::Plain,
-            repeat: 4_000_000usize.div_ceil(bytes),
         }
     }
 
-    /// The least times of memcpy, ours, ISA-L in its best and in its plain order and in place, and GF-Complete.
-    fn least_times(&mut self) -> Vec<Duration> {
-        least_times(
+    /// The least times of all work.
+    fn times(&mut self) -> Times {
+        beside_memcpy(
+            ROUNDS,
+            self.cube.len(),
             self,
             |_| {},
             &[
-                &|s| s.repeat(|s| black_box(&mut s.copy).copy_from_slice(&s.cube)),
-                &|s| s.repeat(|s| encode(s.shape, &s.data, &mut s.cube).expect("encodes")),
-                &|s| s.repeat(|s| s.isal.encode(&s.data, &mut s.cube, s.best)),
-                &|s| s.repeat(|s| s.isal.encode(&s.data, &mut s.cube, Order::Plain)),
-                &|s| s.repeat(|s| s.isal.encode_in_place(&mut s.cube, s.best)),
-                &|s| s.repeat(Encoding::encode_by_gf_complete),
+                &|s| encode(s.shape, &s.data, &mut s.cube).expect("encodes"),
+                &|s| s.isal.encode(&s.data, &mut s.cube, s.best),
+                &|s| s.isal.encode(&s.data, &mut s.cube, Order::Plain),
+                &|s| s.isal.encode_in_place(&mut s.cube, s.best),
+                &Encoding::encode_by_gf_complete,
             ],
         )
     }
@@ -118,12 +122,6 @@ impl Encoding {
         if self.aligned() {
             self.gf_complete
                 .encode(&self.data, &mut self.cube, self.best);
-        }
-    }
-
-    fn repeat(&mut self, work: impl Fn(&mut Encoding)) {
-        for _ in 0..self.repeat {
-            work(self);
         }
     }
 

@@ -1,10 +1,13 @@
-//! The benchmark: encoding, filling, mending and receiving against memcpy of the cube, and encoding against ISA-L,
-//! GF-Complete, zfec and par2; writing and reading the text of a pack against xxd.
+//! The benchmark: every call against memcpy of the cube, and encoding against ISA-L, GF-Complete, zfec and par2; writing and reading
+//! the text of a pack against xxd; how time grows with the cube, with the losses and with the sweeps that they take.
 //!
-//! All times of one table row come from the same run, in rounds that take every candidate in turn; each is the minimum of its
-//! rounds, in processor time of the thread. Buffers are allocated and touched before any timing. `bench --svg PATH` also draws
-//! the tables. The programs zfec, par2 and xxd alone are timed as their tables say.
+//! `bench` prints all tables, `bench TABLE ...` those that are named, `bench --svg PATH` all of them, and draws some. All times of one
+//! table row come from the same run, in rounds that take every candidate in turn; each is the minimum of its rounds, in processor time
+//! of the thread. Buffers are allocated and touched before any timing. The programs zfec, par2 and xxd alone are timed as their tables
+//! say.
 
+mod bars;
+mod calls;
 mod clock;
 mod cube_encoder;
 mod encoding;
@@ -12,87 +15,80 @@ mod folder;
 mod gf_complete;
 mod growth;
 mod isal;
+mod measure;
 mod plot;
 mod programs;
 mod receiving;
 mod repair;
+mod sweeps;
 mod texts;
+mod widths;
 
 use std::env;
 use std::error::Error;
 use std::fs;
-use std::time::Duration;
 
 use jibrufath::Shape;
+
+use crate::measure::ROUNDS;
 
 /// The set of source document 004.
 const REFERENCE_SET: Shape = Shape::new(69, 69, 25, 397);
 
-/// Enough for several seconds a row: a shared machine is slow for a second or two at a time.
-const ROUNDS: usize = 120;
-
-/// How long a piece of work takes, over memcpy of the cube.
-struct Ratio {
-    what: String,
-    ratio: f64,
-}
+/// The names of the tables, in the order in which they are printed.
+const TABLES: [&str; 8] = [
+    "encoding",
+    "repair",
+    "receiving",
+    "growth",
+    "widths",
+    "sweeps",
+    "programs",
+    "texts",
+];
 
 fn main() -> Result<(), Box<dyn Error>> {
     let words: Vec<String> = env::args().skip(1).collect();
-    let path = match &words[..] {
-        [] => None,
-        [option, path] if option == "--svg" => Some(path),
-        _ => return Err("usage: bench [--svg PATH]".into()),
+    let words: Vec<&str> = words.iter().map(String::as_str).collect();
+    let (path, names) = match words[..] {
+        [] => (None, &TABLES[..]),
+        ["--svg", path] => (Some(path), &TABLES[..]),
+        ref names if names.iter().all(|name| TABLES.contains(name)) => (None, names),
+        _ => {
+            let tables = TABLES.join(", ");
+            return Err(format!("usage: bench [--svg PATH | TABLE ...]; tables: {tables}").into());
+        }
     };
     println!(
-        "Thread processor time, minimum of {ROUNDS} interleaved rounds; ratios are to memcpy of the cube in the same rounds."
+        "Thread processor time, minimum of {ROUNDS} interleaved rounds where nothing else is said; ratios are to memcpy of the cube in the same"
     );
-    println!("Buffers are allocated and touched before timing.");
-    println!();
-    let mut ratios = encoding::table();
-    println!();
-    ratios.extend(repair::table()?);
-    println!();
-    ratios.extend(receiving::table()?);
-    println!();
-    let sizes = growth::by_size()?;
-    println!();
-    let shares = growth::by_share_lost()?;
-    if let Some(path) = path {
-        fs::write(path, plot::draw(&ratios, &sizes, &shares))?;
-    }
-    println!();
-    programs::table()?;
-    println!();
-    texts::table()
-}
-
-impl Ratio {
-    fn new(what: &str, ratio: f64) -> Ratio {
-        let what = what.into();
-        Ratio { what, ratio }
-    }
-
-    /// Prints how long the second of two pieces of work takes, over the first.
-    fn print(what: &str, least: &[Duration]) -> Ratio {
-        let ratio = least[1].as_secs_f64() / least[0].as_secs_f64();
-        println!("| {what} | {ratio:.2} |");
-        Ratio::new(what, ratio)
-    }
-}
-
-/// Calls each of the pieces of work in turn, round by round, and gives the least time of each. `before` is not timed.
-fn least_times<S>(
-    state: &mut S,
-    before: impl Fn(&mut S),
-    work: &[&dyn Fn(&mut S)],
-) -> Vec<Duration> {
-    let mut least = vec![Duration::MAX; work.len()];
-    for _ in 0..ROUNDS {
-        for (least, work) in least.iter_mut().zip(work) {
-            before(state);
-            *least = clock::time(|| work(state)).min(*least);
+    println!(
+        "rounds, whose source has just been written. Buffers are allocated and touched before timing."
+    );
+    let (mut rows, mut sizes, mut shares, mut bars) = (vec![], vec![], vec![], vec![]);
+    for name in TABLES.into_iter().filter(|name| names.contains(name)) {
+        println!();
+        match name {
+            "encoding" => rows.extend(encoding::table()),
+            "repair" => rows.extend(repair::table()?),
+            "receiving" => rows.extend(receiving::table()?),
+            "growth" => {
+                sizes = growth::by_size()?;
+                println!();
+                shares = growth::by_share_lost()?;
+            }
+            "widths" => bars.extend(widths::table()?),
+            "sweeps" => bars.extend(sweeps::table()?),
+            "programs" => programs::table()?,
+            _ => texts::table()?,
         }
     }
-    least
+    if !bars.is_empty() {
+        println!();
+        bars::print(&bars);
+    }
+    if let Some(path) = path {
+        fs::write(path, plot::draw(&rows, &sizes, &shares))?;
+    }
+    Ok(())
 }

@@ -1,7 +1,7 @@
 //! The tables as a drawing: bars for the ratios to memcpy, and two charts of how time grows.
 
-use crate::Ratio;
 use crate::growth::{Share, Size, WORK};
+use crate::measure::Row;
 
 const WIDTH: f64 = 960.0;
 const MARGIN: f64 = 30.0;
@@ -17,8 +17,8 @@ const COLOURS: [&str; 4] = ["#9aa7b4", "#1d6fa5", "#1d9a80", "#d6741f"];
 const GREY: &str = "#7a8794";
 
 /// The whole drawing.
-pub fn draw(ratios: &[Ratio], sizes: &[Size], shares: &[Share]) -> String {
-    let charts = 2.0 * MARGIN + 30.0 + BAR * ratios.len() as f64 + 50.0;
+pub fn draw(rows: &[Row], sizes: &[Size], shares: &[Share]) -> String {
+    let charts = 2.0 * MARGIN + 30.0 + BAR * rows.len() as f64 + 50.0;
     let height = charts + CHART[1] + 50.0 + MARGIN;
     [
         format!(
@@ -26,7 +26,7 @@ pub fn draw(ratios: &[Ratio], sizes: &[Size], shares: &[Share]) -> String {
              font-family=\"Helvetica, Arial, sans-serif\" font-size=\"13\" fill=\"#3b4754\">\n\
              <rect width=\"{WIDTH}\" height=\"{height}\" rx=\"8\" fill=\"#ffffff\"/>\n"
         ),
-        bars(ratios),
+        bars(rows),
         size_chart(sizes, [MARGIN + 45.0, charts]),
         share_chart(shares, [MARGIN + 45.0 + CHART[0] + 95.0, charts]),
         "</svg>\n".into(),
@@ -34,14 +34,14 @@ pub fn draw(ratios: &[Ratio], sizes: &[Size], shares: &[Share]) -> String {
     .concat()
 }
 
-fn bars(ratios: &[Ratio]) -> String {
-    let most = ratios.iter().map(|row| row.ratio).fold(1.0, f64::max);
+fn bars(rows: &[Row]) -> String {
+    let most = rows.iter().map(|row| row.ratio).fold(1.0, f64::max);
     let scale = (WIDTH - BARS_LEFT - MARGIN - 50.0) / most;
     let mut drawn = title(
         [MARGIN, MARGIN + 10.0],
         "Time over memcpy of the cube: 69 × 69 × 25, W 397",
     );
-    for (number, Ratio { what, ratio }) in ratios.iter().enumerate() {
+    for (number, Row { what, ratio, .. }) in rows.iter().enumerate() {
         let y = MARGIN + 30.0 + BAR * number as f64;
         let colour = COLOURS[if what.contains("ISA-L") { 0 } else { 1 }];
         drawn += &text([BARS_LEFT - 10.0, y + 14.0], "end", what);

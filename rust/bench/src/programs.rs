@@ -4,16 +4,17 @@
 
 use std::error::Error;
 use std::fs;
-use std::hint::black_box;
 use std::io::ErrorKind;
 use std::process::{Command, Stdio};
 use std::time::Duration;
 
-use jibrufath::{Refusal, encode};
+use jibrufath::Refusal;
 use reference::random::Random;
 
+use crate::calls::{Calls, ENCODE};
 use crate::folder::Folder;
-use crate::{REFERENCE_SET, clock, least_times};
+use crate::measure::{self, milliseconds, over};
+use crate::{REFERENCE_SET, clock};
 
 /// Each program is measured so often, and its least time taken.
 const ROUNDS: usize = 3;
@@ -45,13 +46,6 @@ for _ in range(rounds):
 assert zfec.Decoder(k, m).decode(coded[m - k:], range(m - k, m)) == data
 print(min(times))
 ";
-
-/// The reference set, with all memory that its encode needs.
-struct Ours {
-    data: Vec<u8>,
-    cube: Vec<u8>,
-    copy: Vec<u8>,
-}
 
 /// The least times of memcpy and of our encode, which every row is compared with.
 struct Table {
@@ -165,33 +159,20 @@ pub fn run(command: &mut Command) -> Result<Option<Duration>, Box<dyn Error>> {
 
 impl Table {
     /// Measures memcpy and our encode.
-    fn new() -> Result<Table, Refusal> {
-        let bytes = REFERENCE_SET.cube_bytes()?;
-        let mut state = Ours {
-            data: Random::new(11).bytes(REFERENCE_SET.capacity()?),
-            cube: vec![1; bytes],
-            copy: vec![2; bytes],
-        };
-        let least = least_times(
-            &mut state,
-            |_| {},
-            &[&|s| black_box(&mut s.copy).copy_from_slice(&s.cube), &|s| {
-                encode(REFERENCE_SET, &s.data, &mut s.cube).expect("encodes");
-            }],
-        );
+    fn new() -> Result<Table, jibrufath::Error> {
+        let times = Calls::new(REFERENCE_SET)?.times(measure::ROUNDS, &[ENCODE]);
         Ok(Table {
-            memcpy: least[0],
-            ours: least[1],
+            memcpy: times.memcpy,
+            ours: times.work[0],
         })
     }
 
     fn print(&self, program: &str, what: &str, time: Duration) {
-        let over = |other: Duration| time.as_secs_f64() / other.as_secs_f64();
         println!(
             "| {program} | {what} | {:.1} | {:.2} | {:.2} |",
-            time.as_secs_f64() * 1e3,
-            over(self.memcpy),
-            over(self.ours)
+            milliseconds(time),
+            over(time, self.memcpy),
+            over(time, self.ours)
         );
     }
 }

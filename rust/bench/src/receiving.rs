@@ -1,119 +1,120 @@
-//! Receiving of packs of the reference set against memcpy of the cube.
+//! Receiving of packs, and those of the reference set against memcpy of the cube.
 
-use std::hint::black_box;
-
-use jibrufath::{AirPack, Error, Packet, Received, Refusal, packets, receive_pack, write};
+use compare::patterns::in_succession;
+use jibrufath::{AirPack, Error, Packet, Received, Refusal, Shape, packets, receive_pack, write};
 use reference::random::Random;
 
-use crate::{REFERENCE_SET, Ratio, least_times};
+use crate::REFERENCE_SET;
+use crate::measure::{ROUNDS, ROWS, Row, beside_memcpy};
 
-/// What is said before the table.
-const HEADER: &str = "\
-Receiving of 69 × 69 × 25, W 397: placing the packets, filling, and reading the file where nothing is left.
-
-| call | over memcpy |
-|---|---|";
-
-/// A list of packets to receive.
-struct Kind {
-    what: &'static str,
-    packets: Vec<usize>,
+/// A list of packets to receive, by the numbers of their cells, and whether the file comes back.
+pub struct Kind {
+    what: String,
+    cells: Vec<usize>,
     whole: bool,
 }
 
-/// Packs, and the memory that they are received in.
-struct Receiving {
+/// Packs of one shape, and the memory that they are received in.
+pub struct Receiving {
+    kinds: Vec<Kind>,
     airs: Vec<Vec<u8>>,
     cube: Vec<u8>,
     flags: Vec<u8>,
     file: Vec<u8>,
-    copy: Vec<u8>,
 }
 
-/// All packs are received in the same rounds, so that a slow second of the machine falls on every row alike.
-pub fn table() -> Result<Vec<Ratio>, Error> {
-    println!("{HEADER}");
-    let kinds = kinds()?;
-    let mut state = Receiving::new(&kinds)?;
-    let receive_one = |pack: usize| {
-        move |s: &mut Receiving| {
-            s.receive(pack).expect("a code cube with losses");
-        }
-    };
-    let each: Vec<_> = (0..kinds.len()).map(receive_one).collect();
-    let mut work: Vec<&dyn Fn(&mut Receiving)> = vec![&Receiving::copy];
-    work.extend(each.iter().map(|one| one as &dyn Fn(&mut Receiving)));
-    let least = least_times(&mut state, |_| {}, &work);
-    let mut rows = Vec::new();
-    for (kind, time) in kinds.iter().zip(&least[1..]) {
-        let what = format!("receive: {}", kind.what);
-        rows.push(Ratio::print(&what, &[least[0], *time]));
-    }
+pub fn table() -> Result<Vec<Row>, Error> {
+    println!(
+        "\
+Receiving of 69 × 69 × 25, W 397: placing the packets, filling, and reading the file where nothing is left.
+
+{ROWS}"
+    );
+    let rows = Receiving::new(REFERENCE_SET, kinds()?)?.rows(ROUNDS);
+    rows.iter().for_each(Row::print);
     Ok(rows)
 }
 
-/// The lists of packets that are received, and whether the file comes back.
-fn kinds() -> Result<[Kind; 6], Refusal> {
-    let shape = REFERENCE_SET;
-    let cells = shape.cells()?;
-    let burst = cells / 3..cells / 3 + 2 * shape.l1 * shape.l2;
+/// What is received of the reference set.
+fn kinds() -> Result<Vec<Kind>, Refusal> {
+    let cells = REFERENCE_SET.cells()?;
     let first = |percent: usize| -> Vec<usize> { (0..cells * percent / 100).collect() };
-    let without_burst = (0..cells).filter(|cell| !burst.contains(cell)).collect();
     let twice = [first(100), first(100)].concat();
-    Ok([
-        ("all packets", first(100), true),
-        ("all but 2 × L1 × L2 in succession", without_burst, true),
-        ("the first 25 % of the packets", first(25), false),
-        ("the first 50 %", first(50), false),
-        ("the first 75 %", first(75), false),
-        ("all packets, twice", twice, true),
-    ]
-    .map(|(what, packets, whole)| Kind {
-        what,
-        packets,
-        whole,
-    }))
+    let burst = in_succession(REFERENCE_SET);
+    Ok(vec![
+        Kind::new("receive: all packets", first(100), true),
+        Kind::without("receive: all but 2 × L1 × L2 in succession", &burst),
+        Kind::new("receive: the first 25 % of the packets", first(25), false),
+        Kind::new("receive: the first 50 %", first(50), false),
+        Kind::new("receive: the first 75 %", first(75), false),
+        Kind::new("receive: all packets, twice", twice, true),
+    ])
 }
 
-/// The pack of these of the packets of a written pack.
-fn air(written: &[Packet], packets: &[usize]) -> Result<Vec<u8>, Error> {
-    let mut air = AirPack::new(REFERENCE_SET)?;
-    for &packet in packets {
-        air.push(written[packet])?;
+impl Kind {
+    fn new(what: &str, cells: Vec<usize>, whole: bool) -> Kind {
+        let what = what.into();
+        Kind { what, cells, whole }
     }
-    Ok(air.into_bytes())
+
+    /// All packets but those of the flagged cells, which come back.
+    pub fn without(what: &str, flags: &[u8]) -> Kind {
+        let heard = (0..flags.len()).filter(|&cell| flags[cell] == 0);
+        Kind::new(what, heard.collect(), true)
+    }
 }
 
 impl Receiving {
     /// The packs of a written file, each received once to see that the file comes back exactly where it should.
-    fn new(kinds: &[Kind]) -> Result<Receiving, Error> {
-        let shape = REFERENCE_SET;
+    pub fn new(shape: Shape, kinds: Vec<Kind>) -> Result<Receiving, Error> {
         let file = Random::new(8).bytes(shape.file_bytes()?);
         let written = write(shape, &file)?;
         let packets: Vec<Packet> = packets(&written)?.collect();
-        let airs = kinds.iter().map(|kind| air(&packets, &kind.packets));
+        let airs = kinds.iter().map(|kind| air(shape, &packets, &kind.cells));
         let mut state = Receiving {
             airs: airs.collect::<Result<_, _>>()?,
+            kinds,
             cube: vec![1; shape.cube_bytes()?],
             flags: vec![1; shape.cells()?],
             file: vec![1; file.len()],
-            copy: vec![1; shape.cube_bytes()?],
         };
-        for (pack, kind) in kinds.iter().enumerate() {
+        for pack in 0..state.kinds.len() {
             state.file.fill(1);
             let received = state.receive(pack)?;
-            assert_eq!(kind.whole, matches!(received, Received::File { .. }));
-            assert_eq!(kind.whole, state.file == file, "{}", kind.what);
+            let Kind { what, whole, .. } = &state.kinds[pack];
+            assert_eq!(*whole, matches!(received, Received::File { .. }), "{what}");
+            assert_eq!(*whole, state.file == file, "{what}");
         }
         Ok(state)
     }
 
-    fn copy(&mut self) {
-        black_box(&mut self.copy).copy_from_slice(&self.cube);
+    /// All packs are received in the same rounds, so that a slow second of the machine falls on every row alike.
+    pub fn rows(&mut self, rounds: usize) -> Vec<Row> {
+        let receive_one = |pack: usize| {
+            move |s: &mut Receiving| {
+                s.receive(pack).expect("a code cube with losses");
+            }
+        };
+        let each: Vec<_> = (0..self.kinds.len()).map(receive_one).collect();
+        let work: Vec<_> = each
+            .iter()
+            .map(|one| one as &dyn Fn(&mut Receiving))
+            .collect();
+        let times = beside_memcpy(rounds, self.cube.len(), self, |_| {}, &work);
+        times.rows(self.kinds.iter().map(|kind| kind.what.as_str()))
     }
 
     fn receive(&mut self, pack: usize) -> Result<Received, Refusal> {
         let air = &self.airs[pack];
         receive_pack(air, &mut self.cube, &mut self.flags, &mut self.file)
     }
+}
+
+/// The pack of these of the packets of a written pack.
+fn air(shape: Shape, written: &[Packet], cells: &[usize]) -> Result<Vec<u8>, Error> {
+    let mut air = AirPack::new(shape)?;
+    for &cell in cells {
+        air.push(written[cell])?;
+    }
+    Ok(air.into_bytes())
 }

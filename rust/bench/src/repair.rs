@@ -1,85 +1,57 @@
-//! Filling and mending of the reference set against memcpy.
+//! Filling and mending, and those of the reference set against memcpy.
 
-use std::hint::black_box;
-
-use jibrufath::{Refusal, encode, fill, mend};
+use compare::patterns::{at_random, in_succession};
+use jibrufath::{Refusal, Shape, encode, fill, mend};
 use reference::random::Random;
 
-use crate::{REFERENCE_SET, Ratio, least_times};
-
-/// What is said before the table.
-const HEADER: &str = "\
-Filling and mending of 69 × 69 × 25, W 397. Putting the damage back between rounds is not timed; lost cells hold garbage.
-
-| call | over memcpy |
-|---|---|";
+use crate::REFERENCE_SET;
+use crate::measure::{ROUNDS, ROWS, Row, Times, beside_memcpy};
 
 /// A damaged cube, and the memory that it is repaired in.
 pub struct Repair {
+    shape: Shape,
     right: Vec<u8>,
     damaged: Vec<u8>,
     flags: Vec<u8>,
-    pub cube: Vec<u8>,
-    pub cube_flags: Vec<u8>,
+    cube: Vec<u8>,
+    cube_flags: Vec<u8>,
     second: Vec<u8>,
 }
 
-pub fn table() -> Result<Vec<Ratio>, Refusal> {
-    println!("{HEADER}");
-    let mut rows = fill_rows()?;
-    rows.push(mend_row()?);
-    Ok(rows)
-}
+pub fn table() -> Result<Vec<Row>, Refusal> {
+    println!(
+        "\
+Filling and mending of 69 × 69 × 25, W 397. Putting the damage back between rounds is not timed; lost cells hold garbage.
 
-fn fill_rows() -> Result<Vec<Ratio>, Refusal> {
+{ROWS}"
+    );
     let shape = REFERENCE_SET;
-    let cells = shape.cells()?;
-    let burst = cells / 3..cells / 3 + 2 * shape.l1 * shape.l2;
-    let mut random = Random::new(6);
-    let none = vec![0; cells];
-    let in_succession = (0..cells).map(|cell| u8::from(burst.contains(&cell)));
-    let scattered = (0..cells).map(|_| u8::from(random.chance(5)));
+    let nothing = vec![0; shape.cells()?];
     let mut rows = Vec::new();
     for (what, flags) in [
-        ("nothing lost, a full check", none),
+        ("fill: nothing lost, a full check", nothing.clone()),
         (
-            "2 × L1 × L2 cells in succession lost",
-            in_succession.collect(),
+            "fill: 2 × L1 × L2 cells in succession lost",
+            in_succession(shape),
         ),
-        ("5 % lost at random", scattered.collect()),
+        (
+            "fill: 5 % lost at random",
+            at_random(&mut Random::new(6), shape, 5, 100),
+        ),
     ] {
-        let mut state = Repair::new(flags)?;
-        let least = least_times(
-            &mut state,
-            Repair::put_damage_back,
-            &[&Repair::copy, &|s| {
-                assert_eq!(fill(shape, &mut s.cube, &mut s.cube_flags), Ok(0));
-            }],
-        );
-        assert!(state.cube == state.right, "filling restores the cube");
-        rows.push(Ratio::print(&format!("fill: {what}"), &least));
+        let mut repair = Repair::new(shape, flags)?;
+        rows.extend(repair.fill_times(ROUNDS).rows([what]));
+        assert_eq!(repair.left(), 0, "{what}");
     }
+    let mend_times = Repair::new(shape, nothing)?.mend_times(ROUNDS);
+    rows.extend(mend_times.rows(["mend: nothing wrong"]));
+    rows.iter().for_each(Row::print);
     Ok(rows)
-}
-
-fn mend_row() -> Result<Ratio, Refusal> {
-    let shape = REFERENCE_SET;
-    let mut state = Repair::new(vec![0; shape.cells()?])?;
-    let least = least_times(
-        &mut state,
-        Repair::put_damage_back,
-        &[&Repair::copy, &|s| {
-            assert_eq!(mend(shape, &s.cube, &s.cube_flags, &mut s.second), Ok(()));
-        }],
-    );
-    assert!(state.second == state.right, "mending keeps a right cube");
-    Ok(Ratio::print("mend: nothing wrong", &least))
 }
 
 impl Repair {
     /// A random code cube, with garbage in the flagged cells.
-    pub fn new(flags: Vec<u8>) -> Result<Repair, Refusal> {
-        let shape = REFERENCE_SET;
+    pub fn new(shape: Shape, flags: Vec<u8>) -> Result<Repair, Refusal> {
         let mut random = Random::new(7);
         let data = random.bytes(shape.capacity()?);
         let mut right = vec![1; shape.cube_bytes()?];
@@ -91,6 +63,7 @@ impl Repair {
             }
         }
         Ok(Repair {
+            shape,
             cube: vec![1; right.len()],
             cube_flags: vec![1; flags.len()],
             second: vec![1; right.len()],
@@ -100,12 +73,43 @@ impl Repair {
         })
     }
 
-    pub fn put_damage_back(&mut self) {
-        self.cube.copy_from_slice(&self.damaged);
-        self.cube_flags.copy_from_slice(&self.flags);
+    /// The least time of filling the cube; what comes back is looked at.
+    pub fn fill_times(&mut self, rounds: usize) -> Times {
+        let times = self.times(rounds, |s| {
+            fill(s.shape, &mut s.cube, &mut s.cube_flags).expect("a code cube with losses");
+        });
+        let packets = self.cube.chunks(self.shape.w).zip(&self.cube_flags);
+        for ((packet, &flag), right) in packets.zip(self.right.chunks(self.shape.w)) {
+            assert!(flag == 1 || packet == right, "filling restores the cube");
+        }
+        times
     }
 
-    pub fn copy(&mut self) {
-        black_box(&mut self.second).copy_from_slice(&self.cube);
+    /// How many cells the filling left.
+    pub fn left(&self) -> usize {
+        self.cube_flags.iter().filter(|&&flag| flag == 1).count()
+    }
+
+    fn mend_times(&mut self, rounds: usize) -> Times {
+        let times = self.times(rounds, |s| {
+            assert_eq!(mend(s.shape, &s.cube, &s.cube_flags, &mut s.second), Ok(()));
+        });
+        assert!(self.second == self.right, "mending keeps a right cube");
+        times
+    }
+
+    fn times(&mut self, rounds: usize, work: fn(&mut Repair)) -> Times {
+        beside_memcpy(
+            rounds,
+            self.right.len(),
+            self,
+            Repair::put_damage_back,
+            &[&work],
+        )
+    }
+
+    fn put_damage_back(&mut self) {
+        self.cube.copy_from_slice(&self.damaged);
+        self.cube_flags.copy_from_slice(&self.flags);
     }
 }

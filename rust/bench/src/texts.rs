@@ -10,7 +10,8 @@ use jibrufath::{Shape, write};
 use reference::random::Random;
 
 use crate::folder::Folder;
-use crate::{REFERENCE_SET, least_times, programs};
+use crate::measure::{self, least_times, milliseconds, over};
+use crate::{REFERENCE_SET, programs};
 
 /// xxd is measured so often each way, and its least time taken.
 const ROUNDS: usize = 3;
@@ -111,12 +112,8 @@ fn print_row(program: &str, what: &str, time: Duration, ours: Duration) {
     println!(
         "| {program} | {what} | {:.1} | {:.2} |",
         milliseconds(time),
-        time.as_secs_f64() / ours.as_secs_f64()
+        over(time, ours)
     );
-}
-
-fn milliseconds(time: Duration) -> f64 {
-    time.as_secs_f64() * 1e3
 }
 
 impl Twins {
@@ -136,8 +133,8 @@ impl Twins {
     /// Measures both ways, and looks that they undo each other.
     fn measure(&mut self) -> Times {
         let least = least_times(
+            measure::ROUNDS,
             self,
-            |_| {},
             &[
                 &|s: &mut Twins| write_text(&s.pack, &mut s.text_back).expect("a whole pack"),
                 &|s: &mut Twins| read_text(&s.text, &mut s.pack_back).expect("a whole text"),

@@ -74,17 +74,22 @@ fn steps(length: usize) -> usize {
     if length % 3 == 0 { length - 1 } else { length }
 }
 
-/// A band in every plane, each filled once round from one end to the other, one plane after another.
+/// A band in every plane, filled once round from one end to the other, one plane after another.
 ///
-/// The band is closed to a ring, in which no row or column misses fewer than four cells. In each plane it is cut at another row, the
-/// start: from there on the rows and columns miss what the band's first ones would, and those before it what its last ones would.
-/// The start misses one cell more, so that it is not filled at once: the link, one column past the band. The plane before has its own
-/// last rows there, and misses the link too, in place of another cell of that row: so its staircase fills the link as it ends. On
-/// the line of axis 3 through a link a third cell is missing, in the last plane: as the one plane ends, the line is filled and the next
-/// plane begins.
+/// The band is closed to a ring, in which no row and no column misses fewer than four cells. In each plane the ring is cut before another
+/// row, the start: columns start and start + 1 keep only their rows before it, the columns after these only their rows from it on. So
+/// row start misses two cells of the band, and the staircase goes from there round to row start - 1.
 ///
-/// Every other line of axis 3 that misses a cell misses one in almost all planes, so that it is not filled before the last two are
-/// left. These are whole rings.
+/// Links let the planes wait for each other. Row start misses one cell more, the link, in the column past the band, so that it is not
+/// filled by itself; in the first plane alone it has none. In the plane before, that row is the third from the end and misses the link in
+/// place of its third cell: the staircase fills it with one of its last steps. The line of axis 3 through these two cells misses one more,
+/// in the last plane, so that it is filled as the one plane ends, and the next begins.
+///
+/// Every other line of axis 3 that misses a cell misses one in nearly all planes: it is not filled before the last two planes are left,
+/// which are whole rings.
+///
+/// No losses take more than twice as many sweeps. A line is filled only once; and after two sweeps that fill nothing the third, along
+/// the axis that was filled last, fills nothing either. So of two sweeps, but for the last three, one fills a line.
 fn staircases(shape: Shape) -> Vec<u8> {
     let steps = steps(shape.l1.min(shape.l2));
     assert!(steps >= SHORTEST, "a staircase in {shape:?}");

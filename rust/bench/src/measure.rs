@@ -1,0 +1,128 @@
+//! How work is timed: in rounds that take every piece of work in turn, with memcpy, the unit of the ratios, in the same rounds.
+
+use std::hint::black_box;
+use std::time::Duration;
+
+use crate::clock;
+
+/// Enough for several seconds a row: a shared machine is slow for a second or two at a time.
+pub const ROUNDS: usize = 120;
+
+/// The least times of pieces of work, and of memcpy of the cube in the same rounds.
+pub struct Times {
+    pub memcpy: Duration,
+    pub work: Vec<Duration>,
+}
+
+/// How long a piece of work takes, by itself and over memcpy of the cube.
+pub struct Row {
+    pub what: String,
+    pub milliseconds: f64,
+    pub ratio: f64,
+}
+
+/// The head of a table of rows.
+pub const ROWS: &str = "\
+| call | milliseconds | over memcpy |
+|---|---|---|";
+
+impl Times {
+    /// A row for each piece of work, by these names.
+    pub fn rows<'a>(&self, names: impl IntoIterator<Item = &'a str>) -> Vec<Row> {
+        let named = names.into_iter().zip(&self.work);
+        named
+            .map(|(what, &time)| Row {
+                what: what.into(),
+                milliseconds: milliseconds(time),
+                ratio: over(time, self.memcpy),
+            })
+            .collect()
+    }
+}
+
+impl Row {
+    pub fn print(&self) {
+        let Row {
+            what,
+            milliseconds,
+            ratio,
+        } = self;
+        println!("| {what} | {milliseconds:.2} | {ratio:.2} |");
+    }
+}
+
+/// memcpy of a cube, always in one state: its source has just been written, from the first byte to the last. Repeated at once, on a
+/// source that was only read since, it takes another time.
+struct Memcpy {
+    source: Vec<u8>,
+    target: Vec<u8>,
+}
+
+impl Memcpy {
+    fn new(bytes: usize) -> Memcpy {
+        Memcpy {
+            source: vec![1; bytes],
+            target: vec![2; bytes],
+        }
+    }
+
+    fn time(&mut self) -> Duration {
+        let written = self.source[0].wrapping_add(1);
+        black_box(&mut self.source).fill(written);
+        clock::time(|| black_box(&mut self.target).copy_from_slice(&self.source))
+    }
+}
+
+/// The least times in so many rounds of pieces of work, and of memcpy of so many bytes. `before` comes before each piece of work, and
+/// is not timed.
+pub fn beside_memcpy<S>(
+    rounds: usize,
+    bytes: usize,
+    state: &mut S,
+    before: impl Fn(&mut S),
+    work: &[&dyn Fn(&mut S)],
+) -> Times {
+    let mut memcpy = Memcpy::new(bytes);
+    let mut least = least(rounds, || {
+        let mut times = round(state, &before, work);
+        times.push(memcpy.time());
+        times
+    });
+    Times {
+        memcpy: least.pop().expect("memcpy is the last"),
+        work: least,
+    }
+}
+
+/// The least times of pieces of work.
+pub fn least_times<S>(rounds: usize, state: &mut S, work: &[&dyn Fn(&mut S)]) -> Vec<Duration> {
+    least(rounds, || round(state, &|_| {}, work))
+}
+
+/// The least of the times that the rounds give, each for itself.
+fn least(rounds: usize, mut round: impl FnMut() -> Vec<Duration>) -> Vec<Duration> {
+    let mut least = round();
+    for _ in 1..rounds {
+        for (least, time) in least.iter_mut().zip(round()) {
+            *least = time.min(*least);
+        }
+    }
+    least
+}
+
+/// The times of one round.
+fn round<S>(state: &mut S, before: &impl Fn(&mut S), work: &[&dyn Fn(&mut S)]) -> Vec<Duration> {
+    let timed = |work: &&dyn Fn(&mut S)| {
+        before(state);
+        clock::time(|| work(state))
+    };
+    work.iter().map(timed).collect()
+}
+
+pub fn over(time: Duration, other: Duration) -> f64 {
+    time.as_secs_f64() / other.as_secs_f64()
+}
+
+pub fn milliseconds(time: Duration) -> f64 {
+    time.as_secs_f64() * 1e3
+}

@@ -1,0 +1,129 @@
+//! Every call on large cubes of six widths.
+
+use compare::patterns::{at_random, in_succession};
+use jibrufath::{Error, Shape};
+use reference::random::Random;
+
+use crate::bars::Bar;
+use crate::calls::{CHECK, Call, Calls, ENCODE, FILL, MEND, RECEIVE, WRITE};
+use crate::measure::{Row, milliseconds};
+use crate::repair::Repair;
+
+/// From 16 to 48 megabytes. Those of 63 and 64 bytes a cell have the same lengths, so that a byte of the one compares with a byte of
+/// the other.
+const SHAPES: [Shape; 6] = [
+    NARROWEST,
+    Shape::new(150, 150, 130, 8),
+    Shape::new(150, 150, 130, 16),
+    Shape::new(100, 100, 75, 63),
+    Shape::new(100, 100, 75, 64),
+    Shape::new(43, 43, 25, 1024),
+];
+
+/// The most cells, of the fewest bytes.
+const NARROWEST: Shape = Shape::new(255, 255, 255, 1);
+
+const CALLS: [Call; 6] = [ENCODE, CHECK, FILL, MEND, RECEIVE, WRITE];
+
+/// Fewer rounds than for the reference set: one takes up to a second.
+const ROUNDS: usize = 20;
+
+/// The times of one shape.
+struct Column {
+    shape: Shape,
+    memcpy: f64,
+    rows: Vec<Row>,
+}
+
+/// Prints the table, and gives the bars that it is held to.
+pub fn table() -> Result<Vec<Bar>, Error> {
+    println!(
+        "\
+Every call on large cubes of six widths: milliseconds, and over memcpy of the cube, whose source has just been written; minimum of
+{ROUNDS} rounds. Everything that is lost comes back; at random, four cells of a longest line on average: 1.6 to 9.3 % of the cells.
+"
+    );
+    let columns: Vec<Column> = SHAPES
+        .into_iter()
+        .map(Column::measure)
+        .collect::<Result<_, _>>()?;
+    print_columns(&columns);
+    Ok(bars(&columns))
+}
+
+impl Column {
+    fn measure(shape: Shape) -> Result<Column, Error> {
+        let calls = Calls::new(shape)?.times(ROUNDS, &CALLS);
+        let mut rows = calls.rows(CALLS.iter().map(|call| call.name));
+        let longest = shape.l1.max(shape.l2).max(shape.l3);
+        for (what, flags) in [
+            ("fill, 2 × L1 × L2 in succession lost", in_succession(shape)),
+            (
+                "fill, lost at random",
+                at_random(&mut Random::new(13), shape, 4, longest),
+            ),
+        ] {
+            let mut repair = Repair::new(shape, flags)?;
+            rows.extend(repair.fill_times(ROUNDS).rows([what]));
+            assert_eq!(repair.left(), 0, "{shape:?}, {what}");
+        }
+        Ok(Column {
+            shape,
+            memcpy: milliseconds(calls.memcpy),
+            rows,
+        })
+    }
+
+    fn row(&self, what: &str) -> &Row {
+        let row = self.rows.iter().find(|row| row.what == what);
+        row.expect("a row of the table")
+    }
+}
+
+fn print_columns(columns: &[Column]) {
+    let print_line = |name: &str, entry: &dyn Fn(&Column) -> String| {
+        let entries: Vec<String> = columns.iter().map(entry).collect();
+        println!("| {name} | {} |", entries.join(" | "));
+    };
+    print_line("call", &|column| {
+        let Shape { l1, l2, l3, w } = column.shape;
+        format!("{l1} × {l2} × {l3}, W {w}")
+    });
+    print_line("---", &|_| "---".into());
+    print_line("memcpy", &|column| format!("{:.2} ms", column.memcpy));
+    for Row { what, .. } in &columns[0].rows {
+        print_line(what, &|column| {
+            let row = column.row(what);
+            format!("{:.2} ms, {:.2}", row.milliseconds, row.ratio)
+        });
+    }
+}
+
+/// The narrowest cells against memcpy, and a byte of a cell of 63 against one of 64.
+fn bars(columns: &[Column]) -> Vec<Bar> {
+    let column = |of: Shape| {
+        let column = columns.iter().find(|column| column.shape == of);
+        column.expect("a shape of the table")
+    };
+    let mut bars = Vec::new();
+    for (call, most) in [(CHECK, 12.0), (RECEIVE, 45.0)] {
+        bars.push(Bar {
+            what: format!("255 cubed, W 1: {}, over memcpy", call.name),
+            measured: column(NARROWEST).row(call.name).ratio,
+            most,
+        });
+    }
+    let [narrow, wide] = [SHAPES[3], SHAPES[4]].map(column);
+    for Row {
+        what, milliseconds, ..
+    } in &narrow.rows
+    {
+        let bytes = wide.shape.w as f64 / narrow.shape.w as f64;
+        bars.push(Bar {
+            what: format!("a byte of W 63 over one of W 64: {what}"),
+            measured: milliseconds * bytes / wide.row(what).milliseconds,
+            most: 1.1,
+        });
+    }
+    bars
+}
