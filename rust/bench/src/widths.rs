@@ -1,27 +1,32 @@
-//! Every call on large cubes of six widths.
+//! Every call on large cubes of all widths.
 
 use compare::patterns::{at_random, in_succession};
 use jibrufath::{Error, Shape};
 use reference::random::Random;
 
+use crate::REFERENCE_SET;
 use crate::bars::Bar;
 use crate::calls::{CHECK, Call, Calls, ENCODE, FILL, MEND, RECEIVE, WRITE};
 use crate::measure::{Row, milliseconds};
 use crate::repair::Repair;
 
-/// From 16 to 48 megabytes. Those of 63 and 64 bytes a cell have the same lengths, so that a byte of the one compares with a byte of
-/// the other.
-const SHAPES: [Shape; 6] = [
-    NARROWEST,
+/// The reference set, and cubes from 16 to 48 megabytes.
+const SHAPES: [Shape; 7] = [
+    REFERENCE_SET,
+    W_1,
     Shape::new(150, 150, 130, 8),
     Shape::new(150, 150, 130, 16),
-    Shape::new(100, 100, 75, 63),
-    Shape::new(100, 100, 75, 64),
+    W_63,
+    W_64,
     Shape::new(43, 43, 25, 1024),
 ];
 
 /// The most cells, of the fewest bytes.
-const NARROWEST: Shape = Shape::new(255, 255, 255, 1);
+const W_1: Shape = Shape::new(255, 255, 255, 1);
+
+/// The same lengths, so that a byte of the one compares with a byte of the other.
+const W_63: Shape = Shape::new(100, 100, 75, 63);
+const W_64: Shape = Shape::new(100, 100, 75, 64);
 
 const CALLS: [Call; 6] = [ENCODE, CHECK, FILL, MEND, RECEIVE, WRITE];
 
@@ -39,7 +44,7 @@ struct Column {
 pub fn table() -> Result<Vec<Bar>, Error> {
     println!(
         "\
-Every call on large cubes of six widths: milliseconds, and over memcpy of the cube, whose source has just been written; minimum of
+Every call on large cubes: milliseconds, and over memcpy of the cube, whose source has just been written; minimum of
 {ROUNDS} rounds. Everything that is lost comes back; at random, four cells of a longest line on average: 1.6 to 9.3 % of the cells.
 "
     );
@@ -109,11 +114,11 @@ fn bars(columns: &[Column]) -> Vec<Bar> {
     for (call, most) in [(CHECK, 12.0), (RECEIVE, 45.0)] {
         bars.push(Bar {
             what: format!("255 cubed, W 1: {}, over memcpy", call.name),
-            measured: column(NARROWEST).row(call.name).ratio,
+            measured: column(W_1).row(call.name).ratio,
             most,
         });
     }
-    let [narrow, wide] = [SHAPES[3], SHAPES[4]].map(column);
+    let [narrow, wide] = [W_63, W_64].map(column);
     for Row {
         what, milliseconds, ..
     } in &narrow.rows

@@ -1,5 +1,5 @@
-//! What every comparison of the library with the independent program needs: random inputs, lent memory that shows a byte
-//! written beside it, and one function that runs both programs.
+//! What every comparison of the library with the independent program needs: random inputs, patterns of losses, lent memory that
+//! shows a byte written beside it, and one function that runs both programs.
 
 mod agreement;
 mod cubes;
