@@ -11,6 +11,8 @@ mod Lines
 pub mod Checks
 -- Reaching: peeling as a relation between two states, and that a line filled is such a step.
 mod Reaching
+-- Awake: which lines may have changed, and that the others need no visit.
+mod Awake
 -- Outcome: what the steps of a call add up to.
 mod Outcome
 -- Unique: there is at most one filling, the contract of `fill` determines answer, cube and flags, and bytes of missing cells do not matter.

@@ -123,10 +123,8 @@ cell-off sh first stride len i n t b ne =
     (λ (a : (first + stride * i) * sh .w + sh .w ≤ n * sh .w + t). inr (omega (arith, run-place (sh .w) first stride i)))
     (cells-apart n (first + stride * i) (sh .w) t ne b)
 
-module _ (r : ℕ) (prim : Primitive r) (sh : Shape) (xs fs ys : List ℕ) (z : Sized sh xs fs) (bytes : (p : ℕ) → getD xs p 0 < 256)
-    (first stride len count j k : ℕ) (l : IsLine sh first stride len)
-    (s : Scanned (missing fs) first stride len count j k) (some : 1 ≤ count) (few : count ≤ 2)
-    (o : Solved r (run-of sh first stride len) j k xs ys) where
+module _ (sh : Shape) (xs fs : List ℕ) (z : Sized sh xs fs) (first stride len count j k : ℕ) (l : IsLine sh first stride len)
+    (s : Scanned (missing fs) first stride len count j k) (some : 1 ≤ count) (few : count ≤ 2) where
   abbrev gs : List ℕ
   gs = both-marked fs (first + stride * j) (first + stride * k)
 
@@ -139,12 +137,7 @@ module _ (r : ℕ) (prim : Primitive r) (sh : Shape) (xs fs ys : List ℕ) (z : 
   k-cell : first + stride * k < length fs
   k-cell = omega (arith, z .flags, line-cell-lt sh first stride len k l (s .bound some))
 
-  -- every cell but the two keeps bytes and flag
-  kept : (n t : ℕ) → t < sh .w → n ≢ first + stride * j → n ≢ first + stride * k → layer sh ys t n ≡ layer sh xs t n
-  unfolding layer
-  kept n t b nj nk =
-      o .kept (n * sh .w + t) (cell-off sh first stride len j n t b nj) (cell-off sh first stride len k n t b nk)
-
+  -- every cell but the two keeps its flag
   kept-flag : (n : ℕ) → n ≢ first + stride * j → n ≢ first + stride * k → missing gs n ≡ missing fs n
   kept-flag n nj nk = missing-cong fs gs n (marked-other fs (first + stride * j) (first + stride * k) n nj nk)
 
@@ -165,91 +158,104 @@ module _ (r : ℕ) (prim : Primitive r) (sh : Shape) (xs fs ys : List ℕ) (z : 
   line-few : onLine (missing fs) first stride len ≤ 2
   line-few = omega (arith, s .number)
 
-  -- what agrees before, and is a codeword on the line in layer t, is the line afterwards
-  forced : (v : List ℕ) → ((p : ℕ) → getD v p 0 < 256) → (t : ℕ) → t < sh .w → Codeword r (layerLine sh v t first stride) len
-      → Agrees sh xs (missing fs) v → (i : ℕ) → i < len → layer sh v t (first + stride * i) ≡ layer sh ys t (first + stride * i)
-  unfolding Agrees layerLine lineAt layer
-  forced v bv t b w a i q =
-      sym
-      (solved-forced r (run-of sh first stride len) j k xs ys prim (run-inside sh xs fs z first stride len l) o (s .order some)
-      (s .bound some) t b (λ m h. bytes _) (layerLine sh v t first stride) (λ m h. bv _) w
-      (λ m h nj nk.
-      a (first + stride * m) t (line-cell-lt sh first stride len m l h) b (s .others few m h nj nk)
-      ∙ sym (run-layer sh xs first stride len t m)) i q)
-      ∙ run-layer sh ys first stride len t i
-
-  line-agrees : (K : ℕ → Bool) → Stopping (cells sh) (IsLine sh) (missing fs) K → (v : List ℕ) → CodeOff r sh K v → Agrees sh xs (missing fs) v
-      → Agrees sh ys (missing gs) v
-  unfolding Agrees
-  line-agrees K u v c a n t h b e =
-      ⊎-elim
+  -- no cell of the line is missing afterwards
+  pub line-stops : Stops gs first stride len
+  unfolding Stops
+  line-stops =
+      inl
+      (onLine-none (missing gs) first stride len
+      (λ i b.
+      ⊎-elim (λ p. not-left (first + stride * i) p)
       (λ p.
-      ⊎-elim (λ (f : n ≡ first + stride * j). ap (layer sh v t) f ∙ on j j-lt ∙ sym (ap (layer sh ys t) f))
-      (λ (f : n ≡ first + stride * k). ap (layer sh v t) f ∙ on k (s .bound some) ∙ sym (ap (layer sh ys t) f)) p)
-      (λ p. a n t h b (sym (kept-flag n (p .0) (p .1)) ∙ e) ∙ sym (kept n t b (p .0) (p .1)))
-      (at-or-off n (first + stride * j) (first + stride * k))
-    where
-      on : (i : ℕ) → i < len → layer sh v t (first + stride * i) ≡ layer sh ys t (first + stride * i)
-      on =
-          forced v (c .bytes) t b
-          (c .lines first stride len l (onLine-none K first stride len (peel (cube-fits sh) u (u .inside) first stride len l line-few)) t b) a
+      kept-flag (first + stride * i) (p .0) (p .1)
+      ∙ s .others few i b (λ e. p .0 (ap (λ (m : ℕ). first + stride * m) e)) (λ e. p .1 (ap (λ (m : ℕ). first + stride * m) e)))
+      (at-or-off (first + stride * i) (first + stride * j) (first + stride * k))))
 
-  pub line-reaches : Reaches r sh xs fs ys gs
-  line-reaches =
-      record {
-        size = o .size;
-        flags = marked-length fs (first + stride * j) (first + stride * k);
-        marks = λ n.
-            ⊎-elim (λ p. inr (one-missing fs n (was-missing n p), is-marked n p))
-            (λ p. inl (marked-other fs (first + stride * j) (first + stride * k) n (p .0) (p .1)))
-            (at-or-off n (first + stride * j) (first + stride * k));
-        known = λ n t h b e.
-            kept n t b (λ f. true≢false (sym (was-missing n (inl f)) ∙ e)) (λ f. true≢false (sym (was-missing n (inr f)) ∙ e));
-        left = λ n t h b e. kept n t b (λ f. true≢false (sym e ∙ not-left n (inl f))) (λ f. true≢false (sym e ∙ not-left n (inr f)));
-        inside = λ S u.
-            peel-inside (cube-fits sh) u (u .inside) first stride len l line-few
-            (λ n h off e. kept-flag n (off j j-lt) (off k (s .bound some)) ∙ e);
-        agrees = line-agrees;
-      }
+  module _ (r : ℕ) (prim : Primitive r) (ys : List ℕ) (bytes : (p : ℕ) → getD xs p 0 < 256) (o : Solved r (run-of sh first stride len) j k xs ys) where
+    -- and its bytes
+    kept : (n t : ℕ) → t < sh .w → n ≢ first + stride * j → n ≢ first + stride * k → layer sh ys t n ≡ layer sh xs t n
+    unfolding layer
+    kept n t b nj nk =
+        o .kept (n * sh .w + t) (cell-off sh first stride len j n t b nj) (cell-off sh first stride len k n t b nk)
 
-  line-fewer : number (missing fs) (cells sh) ≡ number (missing gs) (cells sh) + count
-  line-fewer = elim (ℕ-discrete count 1) [ yes one ↦ single one | no more ↦ pair (omega arith) ]
-    where
-      single : count ≡ 1 → number (missing fs) (cells sh) ≡ number (missing gs) (cells sh) + count
-      single one =
-          let same : first + stride * j ≡ first + stride * k = ap (λ (i : ℕ). first + stride * i) (s .one one) in
-          number-remove (missing fs) (missing gs) (cells sh) (first + stride * j) (line-cell-lt sh first stride len j l j-lt)
-          (was-missing _ (inl refl)) (not-left _ (inl refl)) (λ i m ne. sym (kept-flag i ne (λ e. ne (e ∙ sym same))))
-          ∙ ap (λ (c : ℕ). number (missing gs) (cells sh) + c) (sym one)
+    -- what agrees before, and is a codeword on the line in layer t, is the line afterwards
+    forced : (v : List ℕ) → ((p : ℕ) → getD v p 0 < 256) → (t : ℕ) → t < sh .w → Codeword r (layerLine sh v t first stride) len
+        → Agrees sh xs (missing fs) v → (i : ℕ) → i < len → layer sh v t (first + stride * i) ≡ layer sh ys t (first + stride * i)
+    unfolding Agrees layerLine lineAt layer
+    forced v bv t b w a i q =
+        sym
+        (solved-forced r (run-of sh first stride len) j k xs ys prim (run-inside sh xs fs z first stride len l) o (s .order some)
+        (s .bound some) t b (λ m h. bytes _) (layerLine sh v t first stride) (λ m h. bv _) w
+        (λ m h nj nk.
+        a (first + stride * m) t (line-cell-lt sh first stride len m l h) b (s .others few m h nj nk)
+        ∙ sym (run-layer sh xs first stride len t m)) i q)
+        ∙ run-layer sh ys first stride len t i
 
-      pair : count ≡ 2 → number (missing fs) (cells sh) ≡ number (missing gs) (cells sh) + count
-      pair two =
-          let differ : first + stride * k ≢ first + stride * j =
-          λ e. let f : k ≡ j = line-places-differ sh first stride len k j (z .valid) l e in omega (arith, s .two two) in
-          let later : missing (set fs (first + stride * j) 3) (first + stride * k) ≡ true =
-          missing-cong fs _ _ (getD-set-other fs (first + stride * j) (first + stride * k) 3 0 differ) ∙ s .at-last some in
-          omega (
-            arith,
-            missing-mark fs (cells sh) (first + stride * j) (line-cell-lt sh first stride len j l j-lt) (omega (arith, z .flags)) (s .at-first some),
-            missing-mark (set fs (first + stride * j) 3) (cells sh) (first + stride * k) (line-cell-lt sh first stride len k l (s .bound some))
-                (omega (arith, z .flags, length-set fs (first + stride * j) 3)) later,
-          )
+    line-agrees : (K : ℕ → Bool) → Stopping (cells sh) (IsLine sh) (missing fs) K → (v : List ℕ) → CodeOff r sh K v → Agrees sh xs (missing fs) v
+        → Agrees sh ys (missing gs) v
+    unfolding Agrees
+    line-agrees K u v c a n t h b e =
+        ⊎-elim
+        (λ p.
+        ⊎-elim (λ (f : n ≡ first + stride * j). ap (layer sh v t) f ∙ on j j-lt ∙ sym (ap (layer sh ys t) f))
+        (λ (f : n ≡ first + stride * k). ap (layer sh v t) f ∙ on k (s .bound some) ∙ sym (ap (layer sh ys t) f)) p)
+        (λ p. a n t h b (sym (kept-flag n (p .0) (p .1)) ∙ e) ∙ sym (kept n t b (p .0) (p .1)))
+        (at-or-off n (first + stride * j) (first + stride * k))
+      where
+        on : (i : ℕ) → i < len → layer sh v t (first + stride * i) ≡ layer sh ys t (first + stride * i)
+        on =
+            forced v (c .bytes) t b
+            (c .lines first stride len l (onLine-none K first stride len (peel (cube-fits sh) u (u .inside) first stride len l line-few)) t b) a
 
-  pub line-filled : Filled r sh (λ hs. Stops hs first stride len) xs fs ys gs count
-  line-filled =
-      record {
-        reaches = line-reaches;
-        fewer = line-fewer;
-        idle = λ e. absurd (omega arith);
-        stopped = λ e. absurd (omega arith);
-      }
+    pub line-reaches : Reaches r sh xs fs ys gs
+    line-reaches =
+        record {
+          size = o .size;
+          flags = marked-length fs (first + stride * j) (first + stride * k);
+          marks = λ n.
+              ⊎-elim (λ p. inr (one-missing fs n (was-missing n p), is-marked n p))
+              (λ p. inl (marked-other fs (first + stride * j) (first + stride * k) n (p .0) (p .1)))
+              (at-or-off n (first + stride * j) (first + stride * k));
+          known = λ n t h b e.
+              kept n t b (λ f. true≢false (sym (was-missing n (inl f)) ∙ e)) (λ f. true≢false (sym (was-missing n (inr f)) ∙ e));
+          left = λ n t h b e. kept n t b (λ f. true≢false (sym e ∙ not-left n (inl f))) (λ f. true≢false (sym e ∙ not-left n (inr f)));
+          inside = λ S u.
+              peel-inside (cube-fits sh) u (u .inside) first stride len l line-few
+              (λ n h off e. kept-flag n (off j j-lt) (off k (s .bound some)) ∙ e);
+          agrees = line-agrees;
+        }
 
--- a line with no missing cell or more than two
-pub line-idle : (r : ℕ) (sh : Shape) (xs fs : List ℕ) (first stride len : ℕ) → (onLine (missing fs) first stride len ≡ 0) ⊎ (3 ≤ onLine (missing fs) first stride len)
-    → Filled r sh (λ hs. Stops hs first stride len) xs fs xs fs 0
-unfolding Stops
-line-idle r sh xs fs first stride len s =
-    filled-none (λ hs. Stops hs first stride len) xs fs s
+    line-fewer : number (missing fs) (cells sh) ≡ number (missing gs) (cells sh) + count
+    line-fewer = elim (ℕ-discrete count 1) [ yes one ↦ single one | no more ↦ pair (omega arith) ]
+      where
+        single : count ≡ 1 → number (missing fs) (cells sh) ≡ number (missing gs) (cells sh) + count
+        single one =
+            let same : first + stride * j ≡ first + stride * k = ap (λ (i : ℕ). first + stride * i) (s .one one) in
+            number-remove (missing fs) (missing gs) (cells sh) (first + stride * j) (line-cell-lt sh first stride len j l j-lt)
+            (was-missing _ (inl refl)) (not-left _ (inl refl)) (λ i m ne. sym (kept-flag i ne (λ e. ne (e ∙ sym same))))
+            ∙ ap (λ (c : ℕ). number (missing gs) (cells sh) + c) (sym one)
+
+        pair : count ≡ 2 → number (missing fs) (cells sh) ≡ number (missing gs) (cells sh) + count
+        pair two =
+            let differ : first + stride * k ≢ first + stride * j =
+            λ e. let f : k ≡ j = line-places-differ sh first stride len k j (z .valid) l e in omega (arith, s .two two) in
+            let later : missing (set fs (first + stride * j) 3) (first + stride * k) ≡ true =
+            missing-cong fs _ _ (getD-set-other fs (first + stride * j) (first + stride * k) 3 0 differ) ∙ s .at-last some in
+            omega (
+              arith,
+              missing-mark fs (cells sh) (first + stride * j) (line-cell-lt sh first stride len j l j-lt) (omega (arith, z .flags)) (s .at-first some),
+              missing-mark (set fs (first + stride * j) 3) (cells sh) (first + stride * k) (line-cell-lt sh first stride len k l (s .bound some))
+                  (omega (arith, z .flags, length-set fs (first + stride * j) 3)) later,
+            )
+
+    pub line-filled : Filled r sh (λ hs. Stops hs first stride len) xs fs ys gs count
+    line-filled =
+        record {
+          reaches = line-reaches;
+          fewer = line-fewer;
+          idle = λ e. absurd (omega arith);
+          stopped = λ e. absurd (omega arith);
+        }
 
 -- ---- the axes over and over
 

@@ -1,7 +1,9 @@
 // Filling: the erasures of a cube that its lines force, by peeling, exactly.
 mod cells;
+mod on_line;
 mod peel;
 mod verify;
+mod wake;
 
 use answer::Answer;
 use answer::Fault;

@@ -1,30 +1,33 @@
-// Peeling: sweeps over axis 1, 2, 3 and again, until three axes in succession fill nothing.
-use line::Run;
-use shape::Line;
+// Peeling: sweeps over axis 1, 2, 3 and again, until three axes in succession fill nothing. A sweep passes over the lines that nothing has
+// changed on since their last visit: a line that was left then is left now.
+use crate::on_line;
+use crate::wake;
 use shape::LineAnswer;
 use shape::Shape;
-ghost use Prim.Native.Nat.{_≤_};
-ghost use Rattle.shape.specs.Shapes.{IsLine};
-ghost use Rattle.shape.specs.Flags.{missing};
+ghost use mathlib.Core.Path.{_≡_};
+ghost use Prim.Native.Nat.{_+_, _*_, _≤_, _<_};
+ghost use lib.ListN.{length};
 ghost use Rattle.field.specs.Field.{reduction};
 ghost use Rattle.fill.specs.Inner.Cells.{Sized};
-ghost use Rattle.fill.specs.Inner.Peel.{Places, Scanned, Stops, AxisStops, Filled, Peeled};
-
-// The missing cells of a line: how many, and the first and the last place.
-pub(crate) struct MissingPlaces {
-    pub count: usize,
-    pub first: usize,
-    pub last: usize,
-}
+ghost use Rattle.fill.specs.Inner.Peel.{AxisStops, LinesStop, Filled, Peeled, Calm, Visited};
 
 pub(crate) fn peel(cube: &mut [u8], flags: &mut [u8], sh: Shape)
     requires { ⌜ Sized sh (now cube) (now flags) ⌝ }
     ensures { λ _. ⌜ Peeled reduction sh (now (cube .entry)) (now (flags .entry)) (now (cube .exit)) (now (flags .exit)) ⌝ }
 {
+    let mut marks = [0u8; 24576];
+    sweeps(cube, flags, &mut marks, sh);
+}
+
+fn sweeps(cube: &mut [u8], flags: &mut [u8], marks: &mut [u8; 24576], sh: Shape)
+    requires { ⌜ Sized sh (now cube) (now flags) ⌝ }
+    requires { ⌜ Calm sh (now flags) (now marks) ⌝ }
+    ensures { λ _. ⌜ Peeled reduction sh (now (cube .entry)) (now (flags .entry)) (now (cube .exit)) (now (flags .exit)) ⌝ }
+{
     let mut axis = 1;
     let mut idle: usize = 0;
     while idle < 3 {
-        let filled = sweep(cube, flags, sh, axis);
+        let filled = sweep(cube, flags, marks, sh, axis);
         if filled == 0 {
             idle += 1;
         } else {
@@ -34,77 +37,90 @@ pub(crate) fn peel(cube: &mut [u8], flags: &mut [u8], sh: Shape)
     }
 }
 
-// One sweep: each line of an axis, by the cell number of its first cell; answers how many cells it filled.
-fn sweep(cube: &mut [u8], flags: &mut [u8], sh: Shape, axis: usize) -> usize
+// One sweep: each line of an axis that is not quiet, by the cell number of its first cell; answers how many cells it filled.
+fn sweep(
+    cube: &mut [u8],
+    flags: &mut [u8],
+    marks: &mut [u8; 24576],
+    sh: Shape,
+    axis: usize,
+) -> usize
     requires { ⌜ Sized sh (now cube) (now flags) ⌝ }
+    requires { ⌜ Calm sh (now flags) (now marks) ⌝ }
     requires { ⌜ (1 ≤ axis) × (axis ≤ 3) ⌝ }
     ensures { λ r. ⌜ Filled reduction sh (λ fs. AxisStops sh fs axis) (now (cube .entry)) (now (flags .entry)) (now (cube .exit)) (now (flags .exit)) r ⌝ }
+    ensures { λ _. ⌜ Calm sh (now (flags .exit)) (now (marks .exit)) ⌝ }
+{
+    let groups = wake::groups(sh, axis);
+    let mut filled = 0;
+    let mut g = 0;
+    loop {
+        g = wake::next_awake(marks, axis, g, groups);
+        if g == groups {
+            return filled;
+        }
+        filled += group(cube, flags, marks, sh, axis, g);
+        g += 1;
+    }
+}
+
+// A group is marked before its lines are visited: a cell filled on one of them wakes the group again.
+fn group(
+    cube: &mut [u8],
+    flags: &mut [u8],
+    marks: &mut [u8; 24576],
+    sh: Shape,
+    axis: usize,
+    g: usize,
+) -> usize
+    requires { ⌜ Sized sh (now cube) (now flags) ⌝ }
+    requires { ⌜ Calm sh (now flags) (now marks) ⌝ }
+    requires { ⌜ (1 ≤ axis) × (axis ≤ 3) × (g < 8192) ⌝ }
+    ensures { λ r. ⌜ Filled reduction sh (LinesStop sh axis (g * 8) (g * 8 + 8)) (now (cube .entry)) (now (flags .entry)) (now (cube .exit)) (now (flags .exit)) r ⌝ }
+    ensures { λ _. ⌜ Calm sh (now (flags .exit)) (now (marks .exit)) ⌝ }
+{
+    marks[(axis - 1) * 8192 + g] = 1;
+    eight(cube, flags, marks, sh, axis, g * 8)
+}
+
+// Visits eight lines, or those of them that the axis has.
+fn eight(
+    cube: &mut [u8],
+    flags: &mut [u8],
+    marks: &mut [u8; 24576],
+    sh: Shape,
+    axis: usize,
+    from: usize,
+) -> usize
+    requires { ⌜ Sized sh (now cube) (now flags) ⌝ }
+    requires { ⌜ (1 ≤ axis) × (axis ≤ 3) × (from ≤ 65536) × (length (now marks) ≡ 24576) ⌝ }
+    ensures { λ r. ⌜ Visited reduction sh axis from (from + 8) (now (cube .entry)) (now (flags .entry)) (now (marks .entry)) (now (cube .exit)) (now (flags .exit)) (now (marks .exit)) r ⌝ }
 {
     let mut filled = 0;
-    let mut m = 0;
-    loop {
-        let found = shape::axis_line(sh, axis, m);
-        let LineAnswer::Found(line) = found else {
-            return filled;
-        };
-        filled += fill_line(cube, flags, sh, line);
+    let mut m = from;
+    while m < from + 8 {
+        filled += visit(cube, flags, marks, sh, axis, m);
         m += 1;
     }
+    filled
 }
 
-// Fills a line that misses one or two cells; answers how many cells it filled.
-fn fill_line(cube: &mut [u8], flags: &mut [u8], sh: Shape, line: Line) -> usize
+// Visits line m of an axis, if there is one.
+fn visit(
+    cube: &mut [u8],
+    flags: &mut [u8],
+    marks: &mut [u8; 24576],
+    sh: Shape,
+    axis: usize,
+    m: usize,
+) -> usize
     requires { ⌜ Sized sh (now cube) (now flags) ⌝ }
-    requires { ⌜ IsLine sh (line .first) (line .stride) (line .len) ⌝ }
-    ensures { λ r. ⌜ Filled reduction sh (λ fs. Stops fs (line .first) (line .stride) (line .len)) (now (cube .entry)) (now (flags .entry)) (now (cube .exit)) (now (flags .exit)) r ⌝ }
+    requires { ⌜ (1 ≤ axis) × (axis ≤ 3) × (length (now marks) ≡ 24576) ⌝ }
+    ensures { λ r. ⌜ Visited reduction sh axis m (m + 1) (now (cube .entry)) (now (flags .entry)) (now (marks .entry)) (now (cube .exit)) (now (flags .exit)) (now (marks .exit)) r ⌝ }
 {
-    let e = scan(flags, line);
-    let count = e.count;
-    if count == 0 || 2 < count {
+    let found = shape::axis_line(sh, axis, m);
+    let LineAnswer::Found(line) = found else {
         return 0;
-    }
-    let first = line.first;
-    let stride = line.stride;
-    let len = line.len;
-    let w = sh.w;
-    let j = e.first;
-    let k = e.last;
-    let run = Run {
-        first: first * w,
-        stride: stride * w,
-        len: len,
-        width: w,
     };
-    let reduction = field::reduction();
-    let erasures = line::erasures_at(reduction, j as u8, k as u8);
-    line::solve(cube, reduction, run, erasures);
-    flags[first + stride * j] = 3;
-    flags[first + stride * k] = 3;
-    count
-}
-
-pub(crate) fn scan(flags: &[u8], line: Line) -> MissingPlaces
-    requires { ⌜ Places (now flags) (line .first) (line .stride) (line .len) ⌝ }
-    ensures { λ r. ⌜ Scanned (missing (now (flags .entry))) (line .first) (line .stride) (line .len) (r .count) (r .first) (r .last) ⌝ }
-{
-    let first = line.first;
-    let stride = line.stride;
-    let len = line.len;
-    let mut e = MissingPlaces {
-        count: 0,
-        first: 0,
-        last: 0,
-    };
-    let mut i = 0;
-    while i < len {
-        if flags[first + stride * i] == 1 {
-            if e.count == 0 {
-                e.first = i;
-            }
-            e.last = i;
-            e.count += 1;
-        }
-        i += 1;
-    }
-    e
+    on_line::fill_line(cube, flags, marks, sh, line)
 }

@@ -1,5 +1,5 @@
 // The last check: every line without a missing cell must be a codeword in every layer.
-use crate::peel;
+use crate::on_line;
 use cube::CubeCheck;
 use line::Run;
 use shape::Line;
@@ -62,7 +62,7 @@ fn verify_line(cube: &[u8], flags: &[u8], sh: Shape, line: Line) -> bool
     requires { ⌜ IsLine sh (line .first) (line .stride) (line .len) ⌝ }
     ensures { λ r. ⌜ Decides (Right reduction sh (now (cube .entry)) (now (flags .entry)) (line .first) (line .stride) (line .len)) r ⌝ }
 {
-    let e = peel::scan(flags, line);
+    let e = on_line::scan(flags, line);
     if e.count != 0 {
         return true;
     }

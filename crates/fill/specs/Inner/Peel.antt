@@ -3,11 +3,12 @@ use mathlib.Core.Path.{_≡_}
 use mathlib.Core.Bool.{Bool, true, false}
 use mathlib.Core.List.{List}
 use mathlib.Core.Logic.{_≢_, _⊎_}
-use Prim.Native.Nat.{ℕ, _+_, _*_, _≤_, _<_}
+use Prim.Native.Nat.{ℕ, _+_, _-_, _*_, _/_, _≤_, _<_}
 use lib.ListN.{length, getD}
 use Rattle.shape.specs.declared.Shape.{Shape}
-use Rattle.shape.specs.Shapes.{cells, AxisLine, IsLine}
+use Rattle.shape.specs.Shapes.{cells, AxisLine, IsLine, strideOf, lengthOf, linesOf, firstOf}
 use Rattle.shape.specs.Flags.{missing}
+use Rattle.shape.proofs.Geometry.{On}
 use Rattle.data.specs.Data.{layer}
 use Rattle.cube.specs.Cube.{layerLine}
 use Rattle.line.specs.Line.{Codeword}
@@ -78,3 +79,56 @@ pub record Filled (r : ℕ) (sh : Shape) (stops : List ℕ → Type 0) (xs fs xs
 pub record Peeled (r : ℕ) (sh : Shape) (xs fs xs′ fs′ : List ℕ) : Type 0 where
   pub reaches : Reaches r sh xs fs xs′ fs′
   pub stops : (first stride len : ℕ) → IsLine sh first stride len → Stops fs′ first stride len
+
+-- ---- marks
+
+-- The lines 8 g to 8 g + 7 of an axis are a group and share one mark.
+unfoldable pub markAt : ℕ → ℕ → ℕ
+markAt axis g = (axis - 1) * 8192 + g
+
+-- A line is quiet while its mark is 1, and may have changed since it was last visited where it is not.
+unfoldable pub Quiet : List ℕ → ℕ → ℕ → Type 0
+Quiet ms axis m = getD ms (markAt axis (m / 8)) 0 ≡ 1
+
+-- line m of an axis is not peeled
+unfoldable pub LineStops : Shape → List ℕ → ℕ → ℕ → Type 0
+LineStops sh fs axis m = Stops fs (firstOf sh axis m) (strideOf sh axis) (lengthOf sh axis)
+
+-- nor are the lines of an axis from lo on and below hi, as far as it has them
+pub record LinesStop (sh : Shape) (axis lo hi : ℕ) (fs : List ℕ) : Type 0 where
+  pub each : (m : ℕ) → lo ≤ m → m < hi → m < linesOf sh axis → LineStops sh fs axis m
+
+-- No quiet line is to be peeled.
+pub record Calm (sh : Shape) (fs ms : List ℕ) : Type 0 where
+  pub size : length ms ≡ 24576
+  pub stops : (axis m : ℕ) → 1 ≤ axis → axis ≤ 3 → m < linesOf sh axis → Quiet ms axis m → LineStops sh fs axis m
+
+-- Lines were only woken, and a line that stayed quiet has not begun to need peeling.
+pub record Keeps (sh : Shape) (fs ms fs′ ms′ : List ℕ) : Type 0 where
+  pub size : length ms′ ≡ length ms
+  pub falls : (axis m : ℕ) → Quiet ms′ axis m → Quiet ms axis m
+  pub stops :
+      (axis m : ℕ) → 1 ≤ axis → axis ≤ 3 → m < linesOf sh axis → Quiet ms′ axis m →
+      LineStops sh fs axis m → LineStops sh fs′ axis m
+
+-- Lines were only woken, among them every line through cell n.
+pub record Woken (sh : Shape) (n : ℕ) (ms ms′ : List ℕ) : Type 0 where
+  pub size : length ms′ ≡ length ms
+  pub falls : (axis m : ℕ) → Quiet ms′ axis m → Quiet ms axis m
+  pub through : (axis m i : ℕ) → 1 ≤ axis → axis ≤ 3 → On sh axis n m i → Quiet ms′ axis m → ⊥
+
+-- From group lo on every group below hi is quiet.
+pub record AllQuiet (ms : List ℕ) (axis lo hi : ℕ) : Type 0 where
+  pub each : (g : ℕ) → lo ≤ g → g < hi → getD ms (markAt axis g) 0 ≡ 1
+
+-- A visit of one line: afterwards it is not to be peeled.
+pub record LineVisited (r : ℕ) (sh : Shape) (first stride len : ℕ) (xs fs ms xs′ fs′ ms′ : List ℕ) (count : ℕ) : Type 0 where
+  pub filled : Filled r sh (λ gs. Stops gs first stride len) xs fs xs′ fs′ count
+  pub keeps : Keeps sh fs ms fs′ ms′
+  pub after : Stops fs′ first stride len
+
+-- A visit of the lines of an axis from lo on and below hi: those that are quiet afterwards are not to be peeled.
+pub record Visited (r : ℕ) (sh : Shape) (axis lo hi : ℕ) (xs fs ms xs′ fs′ ms′ : List ℕ) (count : ℕ) : Type 0 where
+  pub filled : Filled r sh (LinesStop sh axis lo hi) xs fs xs′ fs′ count
+  pub keeps : Keeps sh fs ms fs′ ms′
+  pub after : (m : ℕ) → lo ≤ m → m < hi → m < linesOf sh axis → Quiet ms′ axis m → LineStops sh fs′ axis m

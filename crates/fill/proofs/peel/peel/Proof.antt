@@ -1,77 +1,20 @@
--- `fill::peel::peel` sweeps the axes 1, 2, 3 over and over until three of them in succession fill nothing: then no line is left to peel. Each
--- sweep fills a cell or is idle, so that the measure falls.
-use mathlib.Core.Path.{_≡_}
-use mathlib.Core.Logic.{_≢_, _⊎_, inl, inr, ⊎-elim}
-use Prim.Native.Nat.{_+_, _-_, _*_, _≤_}
-use native.Mathlib.Omega.{arith}
-use Rattle.shape.specs.Shapes.{cells}
-use Rattle.stopping.specs.Stopping.{number}
-use Rattle.shape.specs.Flags.{missing}
-use Rattle.field.specs.Field.{reduction}
-use Rattle.fill.specs.Inner.Peel.{Reaches}
-use Rattle.fill.proofs.Reaching.{reaches-refl, reaches-trans, reaches-sized, Idle, idle-none, turn-idle, turn-bound, turn-less, axes-peeled}
+-- `fill::peel::peel` starts its sweeps with no line quiet.
+use borrow.Author.Needs.{needs}
+use Rattle.fill.proofs.Awake.{calm-first}
 use Rattle.fill.proofs.peel.peel.Statement.{statement}
 use Rattle.fill.proofs.peel.peel.Tie as tie
 
-abbrev Inv-loop : tie.InvT-loop
-Inv-loop cube₀ flags₀ sh axis₀ idle₀ cube flags axis idle =
-    (1 ≤ axis) × (axis ≤ 3) × (idle ≤ 3) × Reaches reduction sh cube₀ flags₀ cube flags × Idle sh flags axis idle
+sweeps-requires : tie.Need-sweeps-requires
+sweeps-requires c κs = (c .before .before .before .before .before .pre, calm-first _ _)
 
-abbrev μ-loop : tie.MeasureT-loop
-μ-loop cube₀ flags₀ sh axis₀ idle₀ cube flags axis idle = number (missing flags) (cells sh) * 4 + (3 - idle)
+same-length : tie.Need-same-length
+same-length c = search needs
 
-turn :
-    (c : tie.Joined1 Inv-loop μ-loop) →
-    ((c .before .before .before .before .before .sweep .result ≡ 0) × (c .if1 .idle ≡ c .before .before .before .before .before .before .before .before .before .loop .idle + 1)) ⊎ ((c .before .before .before .before .before .sweep .result ≢ 0) × (c .if1 .idle ≡ 0))
-turn c = ⊎-elim (λ w. inl (w .0 .taken, w .1)) (λ w. inr (w .0 .left, w .1)) (c .if1 .came)
+same-length-2 : tie.Need-same-length-2
+same-length-2 c = search needs
 
-loop-holds : tie.Need-loop-holds Inv-loop μ-loop
-loop-holds c = (omega arith, omega arith, omega arith, reaches-refl _ _ _ _, idle-none _ _ _)
-
-sweep-requires : tie.Need-sweep-requires Inv-loop μ-loop
-sweep-requires c κs = (reaches-sized (c .before .before .before .before .before .before .pre) (c .before .before .before .loop .inv .3), (c .before .before .before .loop .inv .0, c .before .before .before .loop .inv .1))
-
-add-idle : tie.Need-add-idle Inv-loop μ-loop
-add-idle c = omega arith
-
-add-axis : tie.Need-add-axis Inv-loop μ-loop
-add-axis c = omega arith
-
-loop-less : tie.Need-loop-less Inv-loop μ-loop
-loop-less c = turn-less _ (c .before .before .before .before .before .sweep .ensures) _ _ (turn c) (omega arith)
-
-loop-again : tie.Need-loop-again Inv-loop μ-loop
-loop-again c = (
-  omega arith,
-  omega arith,
-  turn-bound _ (c .before .before .before .before .before .sweep .ensures) _ _ (turn c) (omega arith),
-  reaches-trans (c .before .before .before .before .before .before .before .before .before .loop .inv .3) (c .before .before .before .before .before .sweep .ensures .reaches),
-  turn-idle _ (c .before .before .before .before .before .sweep .ensures) _ _ (turn c) (c .before .before .before .before .before .before .before .before .before .loop .inv .0) (c .before .before .before .before .before .before .before .before .before .loop .inv .1) (c .before .before .before .before .before .before .before .before .before .loop .inv .4),
-)
-
-same-length : tie.Need-same-length Inv-loop μ-loop
-same-length c = c .before .loop .inv .3 .size
-
-same-length-2 : tie.Need-same-length-2 Inv-loop μ-loop
-same-length-2 c = c .before .loop .inv .3 .flags
-
-returns : tie.Need-returns Inv-loop μ-loop
-returns c =
-    let e : c .before .loop .idle ≡ 3 = omega arith in
-    axes-peeled _ (c .before .before .before .before .pre .valid) (c .before .loop .inv .0) (c .before .loop .inv .1) (rw e at (c .before .loop .inv .4)) (c .before .loop .inv .3)
+returns : tie.Need-returns
+returns c = search needs
 
 pub peel-spec : {M : Type 1} → statement M
-peel-spec =
-    tie.close
-    (tie.spec
-    Inv-loop
-    μ-loop
-    loop-holds
-    sweep-requires
-    add-idle
-    add-axis
-    loop-less
-    loop-again
-    same-length
-    same-length-2
-    returns)
+peel-spec = tie.close (tie.spec sweeps-requires same-length same-length-2 returns)

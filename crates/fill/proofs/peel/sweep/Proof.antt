@@ -1,86 +1,67 @@
--- `fill::peel::sweep` fills the lines of an axis, one after the other.
-use mathlib.Core.Path.{_≡_}
-use Prim.Native.Nat.{_+_, _-_, _≤_, _<_}
+-- `fill::peel::sweep` visits each group of an axis that is not quiet; the lines of a quiet one stop.
+use Prim.Native.Nat.{_-_, _*_, _≤_}
 use native.Mathlib.Omega.{arith}
-use borrow.Author.Needs.{needs}
 use denote.Ref.{now}
-use Rattle.answer.specs.Values.{passes}
-use Rattle.shape.specs.Shapes.{linesOf, lineOf}
-use Rattle.shape.proofs.Valid.{line-told}
-use Rattle.shape.proofs.Geometry.{line-found, line-passed}
 use Rattle.field.specs.Field.{reduction}
-use Rattle.fill.specs.Inner.Peel.{Stops, AxisStops, Filled}
-use Rattle.cube.proofs.AxisRuns.{lines-small}
-use Rattle.fill.proofs.Lines.{Below, below-none, below-next, below-all}
-use Rattle.fill.proofs.Reaching.{reaches-sized, filled-none, filled-next, filled-weaken, filled-le}
+use Rattle.fill.specs.Inner.Peel.{LinesStop, Filled, Calm}
+use Rattle.fill.proofs.Awake.{swept-none, swept-quiet, swept-group, swept-all}
+use Rattle.fill.proofs.Reaching.{reaches-sized, filled-le}
 use Rattle.fill.proofs.peel.sweep.Statement.{statement}
 use Rattle.fill.proofs.peel.sweep.Tie as tie
 
 abbrev Inv-loop : tie.InvT-loop
-Inv-loop cube₀ flags₀ sh axis filled₀ m₀ cube flags filled m =
-    (m ≤ linesOf sh axis) × Filled reduction sh (λ fs. Below sh axis (Stops fs) m) cube₀ flags₀ cube flags filled
+Inv-loop cube₀ flags₀ marks₀ sh axis groups filled₀ g₀ cube flags marks filled g =
+    (g ≤ groups) × Calm sh flags marks × Filled reduction sh (LinesStop sh axis 0 (g * 8)) cube₀ flags₀ cube flags filled
 
 abbrev μ-loop : tie.MeasureT-loop
-μ-loop cube₀ flags₀ sh axis filled₀ m₀ cube flags filled m = linesOf sh axis - m
+μ-loop cube₀ flags₀ marks₀ sh axis groups filled₀ g₀ cube flags marks filled g = groups - g
 
-found :
-    (c : tie.After-known-told Inv-loop μ-loop) →
-    lineOf (c .before .before .before .before .before .before .before .args .sh) (c .before .before .before .before .before .before .before .args .axis) (c .before .before .before .before .loop .m) ≡ passes (c .before .found .given .0 .0)
-found c = line-told _ _ _ _ _ (c .before .before .before .axis-line .ensures) (c .before .found .given .1)
+-- up to the next group that is not quiet
+swept :
+    (c : tie.After-next-awake Inv-loop μ-loop) →
+    Filled reduction (c .before .before .before .before .before .before .args .sh) (LinesStop (c .before .before .before .before .before .before .args .sh) (c .before .before .before .before .before .before .args .axis) 0 (c .next-awake .result * 8))
+    (now (c .before .before .before .before .before .before .args .cube)) (now (c .before .before .before .before .before .before .args .flags)) (c .before .before .loop .cube) (c .before .before .loop .flags) (c .before .before .loop .filled)
+swept c = swept-quiet (c .before .before .before .before .before .before .pre .1 .1 .0) (c .before .before .before .before .before .before .pre .1 .1 .1) (c .before .before .loop .inv .1) (c .next-awake .ensures .2) (c .before .before .loop .inv .2)
 
-found-lt : (c : tie.After-known-told Inv-loop μ-loop) → c .before .before .before .before .loop .m < linesOf (c .before .before .before .before .before .before .before .args .sh) (c .before .before .before .before .before .before .before .args .axis)
-found-lt c = line-passed _ _ _ _ (found c) .3
-
--- one line more
-filled :
-    (c : tie.After-fill-line Inv-loop μ-loop) →
-    Filled reduction (c .before .before .before .before .before .before .before .before .before .before .args .sh)
-    (λ fs. Below (c .before .before .before .before .before .before .before .before .before .before .args .sh) (c .before .before .before .before .before .before .before .before .before .before .args .axis) (Stops fs) (c .before .before .before .before .before .before .before .loop .m + 1))
-    (now (c .before .before .before .before .before .before .before .before .before .before .args .cube)) (now (c .before .before .before .before .before .before .before .before .before .before .args .flags)) (c .fill-line .last .0) (c .fill-line .last .1 .0) (c .before .before .before .before .before .before .before .loop .filled + c .fill-line .result)
-filled c = filled-next _ (λ h p. below-next _ _ _ _ _ h (found (c .before .before .before)) p) (c .before .before .before .before .before .before .before .loop .inv .1) (c .fill-line .ensures)
+groups-requires : tie.Need-groups-requires Inv-loop μ-loop
+groups-requires c κs = (c .before .before .pre .0 .valid, c .before .before .pre .1 .1 .0, c .before .before .pre .1 .1 .1)
 
 loop-holds : tie.Need-loop-holds Inv-loop μ-loop
-loop-holds c = (omega arith, filled-none _ _ _ (below-none _ _ _))
+loop-holds c = (omega arith, c .before .before .before .pre .1 .0, swept-none)
 
-axis-line-requires : tie.Need-axis-line-requires Inv-loop μ-loop
-axis-line-requires c κs = search needs
-
-enum-known-found : tie.Need-enum-known-found Inv-loop μ-loop
-enum-known-found c = search needs
-
-enum-told : tie.Need-enum-told Inv-loop μ-loop
-enum-told c = search needs
+next-awake-requires : tie.Need-next-awake-requires Inv-loop μ-loop
+next-awake-requires c κs = (c .before .before .before .before .before .pre .1 .1 .0, c .before .before .before .before .before .pre .1 .1 .1, c .before .loop .inv .0, c .before .before .groups .ensures .1, c .before .loop .inv .1 .size)
 
 same-length : tie.Need-same-length Inv-loop μ-loop
-same-length c = c .before .before .before .loop .inv .1 .reaches .size
+same-length c = c .before .before .before .loop .inv .2 .reaches .size
 
 same-length-2 : tie.Need-same-length-2 Inv-loop μ-loop
-same-length-2 c = c .before .before .before .loop .inv .1 .reaches .flags
+same-length-2 c = c .before .before .before .loop .inv .2 .reaches .flags
 
 returns : tie.Need-returns Inv-loop μ-loop
-unfolding AxisStops
-returns c =
-    filled-weaken _
-    (λ h.
-    below-all _ _ _ _ _ _ (c .before .before .before .before .before .before .pre .0 .valid) (c .before .before .before .before .before .before .pre .1 .0) (c .before .before .before .before .before .before .pre .1 .1) h
-    (c .before .before .axis-line .ensures) (c .enum-told .given .1))
-    (c .before .before .before .loop .inv .1)
+returns c = (swept-all _ (c .before .before .before .before .before .before .before .pre .0 .valid) (c .before .before .before .before .groups .ensures .0) (rw (c .if1 .taken) at (swept (c .before))), c .before .before .before .loop .inv .1)
 
-fill-line-requires : tie.Need-fill-line-requires Inv-loop μ-loop
-fill-line-requires c κs = (reaches-sized (c .before .before .before .before .before .before .before .before .before .pre .0) (c .before .before .before .before .before .before .loop .inv .1 .reaches), line-found _ _ _ _ (found (c .before .before)))
+group-requires : tie.Need-group-requires Inv-loop μ-loop
+group-requires c κs = (
+  reaches-sized (c .before .before .before .before .before .before .before .before .before .before .pre .0) (c .before .before .before .before .before .before .loop .inv .2 .reaches),
+  (c .before .before .before .before .before .before .loop .inv .1, (c .before .before .before .before .before .before .before .before .before .before .pre .1 .1 .0, c .before .before .before .before .before .before .before .before .before .before .pre .1 .1 .1, omega (arith, c .before .before .before .before .next-awake .ensures .1, c .before .before .before .before .before .before .before .groups .ensures .1))),
+)
 
 add-filled : tie.Need-add-filled Inv-loop μ-loop
-add-filled c = omega (arith, filled-le (filled (c .before .before .before .before)), c .before .before .before .before .before .before .before .before .before .before .before .before .before .before .pre .0 .flags)
+add-filled c = omega (arith, filled-le (swept-group _ (swept (c .before .before .before .before .before .before .before .before .before)) (c .before .before .before .before .group .ensures .0)), c .before .before .before .before .before .before .before .before .before .before .before .before .before .before .before .pre .0 .flags)
 
-add-m : tie.Need-add-m Inv-loop μ-loop
-add-m c = omega (arith, lines-small _ (c .before .before .before .before .before .before .before .before .before .before .before .before .before .before .args .axis) (c .before .before .before .before .before .before .before .before .before .before .before .before .before .before .pre .0 .valid), found-lt (c .before .before .before .before .before .before .before))
+add-g : tie.Need-add-g Inv-loop μ-loop
+add-g c = omega (arith, c .before .before .before .before .before .before .before .before .before .next-awake .ensures .1, c .before .before .before .before .before .before .before .before .before .before .before .before .groups .ensures .1)
 
 loop-less : tie.Need-loop-less Inv-loop μ-loop
-loop-less c = omega (arith, found-lt (c .before .before .before .before .before .before .before))
+loop-less c = omega (arith, c .before .before .before .before .before .before .before .before .before .next-awake .ensures .0, c .before .before .before .before .before .before .before .before .before .next-awake .ensures .1)
 
 loop-again : tie.Need-loop-again Inv-loop μ-loop
-loop-again c =
-    (omega (arith, found-lt (c .before .before .before .before .before .before .before)), filled (c .before .before .before .before))
+loop-again c = (
+  omega (arith, c .before .before .before .before .before .before .before .before .before .next-awake .ensures .1),
+  c .before .before .before .before .group .ensures .1,
+  swept-group _ (swept (c .before .before .before .before .before .before .before .before .before)) (c .before .before .before .before .group .ensures .0),
+)
 
 pub sweep-spec : {M : Type 1} → statement M
 sweep-spec =
@@ -88,15 +69,14 @@ sweep-spec =
     (tie.spec
     Inv-loop
     μ-loop
+    groups-requires
     loop-holds
-    axis-line-requires
-    enum-known-found
-    enum-told
+    next-awake-requires
     same-length
     same-length-2
     returns
-    fill-line-requires
+    group-requires
     add-filled
-    add-m
+    add-g
     loop-less
     loop-again)

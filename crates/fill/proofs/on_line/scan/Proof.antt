@@ -1,4 +1,4 @@
--- `fill::peel::scan` counts the missing cells of a line and finds the first and the last of them.
+-- `fill::on_line::scan` counts the missing cells of a line and finds the first and the last of them.
 use mathlib.Core.Path.{_≡_}
 use mathlib.Core.Logic.{⊎-elim}
 use Prim.Native.Nat.{_-_, _≤_}
@@ -7,8 +7,8 @@ use borrow.Author.Tests.{eq-eqb, ne-eqb}
 use Rattle.shape.specs.Flags.{missing}
 use Rattle.fill.specs.Inner.Peel.{Scanned}
 use Rattle.fill.proofs.Scanning.{scanned-none, scanned-skip, scanned-first, scanned-next}
-use Rattle.fill.proofs.peel.scan.Statement.{statement}
-use Rattle.fill.proofs.peel.scan.Tie as tie
+use Rattle.fill.proofs.on_line.scan.Statement.{statement}
+use Rattle.fill.proofs.on_line.scan.Tie as tie
 
 abbrev Inv-loop : tie.InvT-loop
 Inv-loop flags first stride len e₀ i₀ e i =

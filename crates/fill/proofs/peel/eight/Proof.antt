@@ -1,0 +1,76 @@
+-- `fill::peel::eight` visits eight lines of an axis, one after the other.
+use mathlib.Core.Path.{_≡_, _∙_}
+use Prim.Native.Nat.{_+_, _-_, _≤_}
+use native.Mathlib.Omega.{arith}
+use denote.Ref.{now}
+use Rattle.field.specs.Field.{reduction}
+use Rattle.fill.specs.Inner.Peel.{Visited}
+use Rattle.fill.proofs.Awake.{visited-none, visited-next}
+use Rattle.fill.proofs.Reaching.{reaches-sized, filled-le}
+use Rattle.fill.proofs.peel.eight.Statement.{statement}
+use Rattle.fill.proofs.peel.eight.Tie as tie
+
+abbrev Inv-loop : tie.InvT-loop
+Inv-loop cube₀ flags₀ marks₀ sh axis from filled₀ m₀ cube flags marks filled m =
+    (from ≤ m) × (m ≤ from + 8) × Visited reduction sh axis from m cube₀ flags₀ marks₀ cube flags marks filled
+
+abbrev μ-loop : tie.MeasureT-loop
+μ-loop cube₀ flags₀ marks₀ sh axis from filled₀ m₀ cube flags marks filled m = from + 8 - m
+
+-- one line more
+visited :
+    (c : tie.After-slice-known4 Inv-loop μ-loop) →
+    Visited reduction (c .before .before .before .before .before .before .before .before .before .before .before .before .args .sh) (c .before .before .before .before .before .before .before .before .before .before .before .before .args .axis) (c .before .before .before .before .before .before .before .before .before .before .before .before .args .from) (c .before .before .before .before .before .before .before .before .before .loop .m + 1) (now (c .before .before .before .before .before .before .before .before .before .before .before .before .args .cube)) (now (c .before .before .before .before .before .before .before .before .before .before .before .before .args .flags))
+    (now (c .before .before .before .before .before .before .before .before .before .before .before .before .args .marks)) (c .before .before .before .before .visit .last .0) (c .before .before .before .before .visit .last .1 .0) (c .before .before .before .before .visit .last .1 .1 .0) (c .before .before .before .before .before .before .before .before .before .loop .filled + c .before .before .before .before .visit .result)
+visited c = visited-next (c .before .before .before .before .before .before .before .before .before .before .before .before .pre .1 .0) (c .before .before .before .before .before .before .before .before .before .before .before .before .pre .1 .1) (c .before .before .before .before .before .before .before .before .before .loop .inv .2) (c .before .before .before .before .visit .ensures)
+
+loop-holds : tie.Need-loop-holds Inv-loop μ-loop
+loop-holds c = (omega arith, omega arith, visited-none _ _ _ _)
+
+add-loop : tie.Need-add-loop Inv-loop μ-loop
+add-loop c = omega arith
+
+visit-requires : tie.Need-visit-requires Inv-loop μ-loop
+visit-requires c κs = (
+  reaches-sized (c .before .before .before .before .before .before .before .pre .0) (c .before .before .before .before .loop .inv .2 .filled .reaches),
+  (c .before .before .before .before .before .before .before .pre .1 .0, c .before .before .before .before .before .before .before .pre .1 .1, c .before .before .before .before .loop .inv .2 .keeps .size ∙ c .before .before .before .before .before .before .before .pre .1 .3),
+)
+
+add-filled : tie.Need-add-filled Inv-loop μ-loop
+add-filled c = omega (arith, filled-le (visited c .filled), c .before .before .before .before .before .before .before .before .before .before .before .before .pre .0 .flags)
+
+add-m : tie.Need-add-m Inv-loop μ-loop
+add-m c = omega arith
+
+loop-less : tie.Need-loop-less Inv-loop μ-loop
+loop-less c = omega arith
+
+loop-again : tie.Need-loop-again Inv-loop μ-loop
+loop-again c =
+    (omega arith, omega arith, visited c)
+
+same-length : tie.Need-same-length Inv-loop μ-loop
+same-length c = c .before .loop .inv .2 .filled .reaches .size
+
+same-length-2 : tie.Need-same-length-2 Inv-loop μ-loop
+same-length-2 c = c .before .loop .inv .2 .filled .reaches .flags
+
+returns : tie.Need-returns Inv-loop μ-loop
+returns c = let e : c .before .loop .m ≡ c .before .before .before .before .args .from + 8 = omega arith in rw e at (c .before .loop .inv .2)
+
+pub eight-spec : {M : Type 1} → statement M
+eight-spec =
+    tie.close
+    (tie.spec
+    Inv-loop
+    μ-loop
+    loop-holds
+    add-loop
+    visit-requires
+    add-filled
+    add-m
+    loop-less
+    loop-again
+    same-length
+    same-length-2
+    returns)
