@@ -19,5 +19,7 @@ mod Outcome
 pub mod Unique
 -- Recovery: a code cube with erasures comes back, and how many cells can be left.
 pub mod Recovery
+-- Whole: a cube with no cell missing.
+mod Whole
 -- Theorems: what document 01 says of filling.
 pub mod Theorems

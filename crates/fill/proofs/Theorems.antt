@@ -1,28 +1,22 @@
 -- The theorems of specs/Theorems.antt, from the laws of this crate.
 use mathlib.Core.Path.{_≡_, refl, sym, ap, _∙_}
-use mathlib.Core.Bool.{Bool, true, false, false≢true}
-use mathlib.Core.List.{List}
 use mathlib.Core.Logic.{inl, inr}
 use Prim.Native.Nat.{ℕ, _<_}
 use native.Mathlib.Omega.{arith}
 use lib.ListN.{length}
-use Rattle.answer.specs.Values.{gives, passes}
+use Rattle.answer.specs.Values.{gives}
 use Rattle.answer.proofs.Values.{gives-refused}
-use Rattle.shape.specs.declared.Shape.{Shape}
-use Rattle.shape.specs.Shapes.{cells, IsLine}
-use Rattle.shape.specs.Flags.{missing, noneMissing}
-use Rattle.shape.proofs.Geometry.{line-cell-lt}
-use Rattle.data.specs.Data.{layer}
-use Rattle.cube.specs.Cube.{CodeCube}
-use Rattle.stopping.specs.Stopping.{Largest}
-use Rattle.stopping.proofs.Number.{not-true-false, number-cong, number-none}
-use Rattle.stopping.proofs.Stopping.{onLine-none, largest-unique}
-use Rattle.fill.specs.Fill.{left, flagsChecked, Filling, fill-refused, fill-done, fill-contradiction}
+use Rattle.shape.specs.Shapes.{cells}
+use Rattle.shape.specs.Flags.{missing}
+use Rattle.stopping.proofs.Number.{number-cong, number-none}
+use Rattle.stopping.proofs.Stopping.{largest-unique}
+use Rattle.fill.specs.Fill.{left, Filling, fill-refused, fill-done, fill-contradiction}
 use Rattle.fill.specs.Theorems.{OneFilling, MissingNotRead, FillingOrContradiction, CheckOfCube}
 use Rattle.fill.specs.Inner.Cells.{Sized}
 use Rattle.fill.proofs.Checks.{done-sized, done-flags}
 use Rattle.fill.proofs.Marks.{none-missing}
-use Rattle.fill.proofs.Unique.{layers-ext, flags-ext, filling-unique, filling-cong, done-refused, outcome-known}
+use Rattle.fill.proofs.Whole.{empty, code-filling, kept, filled-code}
+use Rattle.fill.proofs.Unique.{flags-ext, filling-unique, filling-cong, done-refused, outcome-known}
 
 pub one-filling : OneFilling
 unfolding OneFilling
@@ -54,41 +48,6 @@ filling-or-contradiction r p sh xs fs xs′ fs′ _ done (fill-done d s v l u) K
     there = filling-cong same u
 filling-or-contradiction r p sh xs fs xs′ fs′ _ done (fill-contradiction d K′ l none c e) K k =
     ((λ _ v f. none v (filling-cong (largest-unique k l) f), λ _. refl), λ v f. absurd (none v (filling-cong (largest-unique k l) f)))
-
--- ---- no cell missing
-
-module _ (r : ℕ) (sh : Shape) (xs fs : List ℕ) (none : noneMissing fs ≡ true) (done : flagsChecked sh (length xs) fs ≡ passes tt) where
-  known : (n : ℕ) → missing fs n ≡ false
-  known = none-missing fs none
-
-  -- a stopping set has no cell then
-  empty : (K : ℕ → Bool) → Largest (cells sh) (IsLine sh) (missing fs) K → (n : ℕ) → n < cells sh → K n ≡ false
-  empty K k n l = not-true-false (K n) (λ e. false≢true (sym (known n) ∙ k .stopping .inside n l e))
-
-  code-filling : (K : ℕ → Bool) → Largest (cells sh) (IsLine sh) (missing fs) K → CodeCube r sh xs → Filling r sh xs (missing fs) K xs
-  code-filling K k code =
-      record {
-        size = refl;
-        bytes = code .bytes;
-        known = λ n w l b e. refl;
-        cleared = λ n w l b e. absurd (false≢true (sym (empty K k n l) ∙ e));
-        lines = λ first stride len l _. code .lines first stride len l;
-      }
-
-  kept : (ys : List ℕ) → length ys ≡ length xs
-      → ((n w : ℕ) → n < cells sh → w < sh .w → missing fs n ≡ false → layer sh ys w n ≡ layer sh xs w n) → ys ≡ xs
-  kept ys size same =
-      let z = done-sized sh xs fs done in
-      layers-ext sh ys xs (z .valid) (size ∙ z .bytes) (z .bytes) (λ n w l b. same n w l b (known n))
-
-  filled-code : (K : ℕ → Bool) → Largest (cells sh) (IsLine sh) (missing fs) K → Filling r sh xs (missing fs) K xs → CodeCube r sh xs
-  filled-code K k f =
-      record {
-        size = done-sized sh xs fs done .bytes;
-        bytes = f .bytes;
-        lines = λ first stride len l.
-            f .lines first stride len l (onLine-none K first stride len (λ i m. empty K k _ (line-cell-lt sh first stride len i l m)));
-      }
 
 pub check-of-cube : CheckOfCube
 unfolding CheckOfCube

@@ -11,7 +11,8 @@ use answer::Refusal;
 use shape::Measured;
 use shape::Shape;
 ghost use mathlib.Core.Path.{_≡_};
-ghost use Rattle.answer.specs.Values.{checked, answerValue};
+ghost use lib.ListN.{length};
+ghost use Rattle.answer.specs.Values.{passes, checked, answerValue};
 ghost use Rattle.field.specs.Field.{reduction};
 ghost use Rattle.fill.specs.Fill.{fillValue, flagsChecked, FillOutcome};
 
@@ -29,6 +30,16 @@ pub fn fill(cube: &mut [u8], flags: &mut [u8], sh: Shape) -> FillAnswer
     if let Answer::Refused(f) = answer {
         return FillAnswer::Refused(f);
     }
+    if shape::flags::none_missing(flags) {
+        return verify::whole(cube, sh);
+    }
+    fill_missing(cube, flags, sh)
+}
+
+fn fill_missing(cube: &mut [u8], flags: &mut [u8], sh: Shape) -> FillAnswer
+    requires { ⌜ flagsChecked sh (length (now cube)) (now flags) ≡ passes tt ⌝ }
+    ensures { λ r. ⌜ FillOutcome reduction sh (now (cube .entry)) (now (flags .entry)) (now (cube .exit)) (now (flags .exit)) (fillValue r) ⌝ }
+{
     cells::clear_missing(cube, flags, sh);
     peel::peel(cube, flags, sh);
     if verify::verify(cube, flags, sh) {

@@ -1,16 +1,35 @@
-// The last check: every line without a missing cell must be a codeword in every layer.
+// The last check: every line without a missing cell must be a codeword in every layer. With no cell missing it is the only one.
+use crate::FillAnswer;
 use crate::on_line;
+use answer::Fault;
+use answer::Refusal;
 use cube::CubeCheck;
 use line::Run;
 use shape::Line;
 use shape::LineAnswer;
 use shape::Shape;
-ghost use Prim.Native.Nat.{_≤_};
-ghost use Rattle.shape.specs.Shapes.{IsLine};
+ghost use mathlib.Core.Path.{_≡_};
+ghost use Prim.Native.Nat.{_*_, _≤_};
+ghost use lib.ListN.{length};
+ghost use Rattle.shape.specs.Shapes.{Valid, cells, IsLine};
+ghost use Rattle.cube.specs.Cube.{CodeCube};
 ghost use Rattle.field.specs.Field.{reduction};
 ghost use Rattle.span.specs.Decision.{Decides};
+ghost use Rattle.fill.specs.Fill.{fillValue};
 ghost use Rattle.fill.specs.Inner.Cells.{Sized};
-ghost use Rattle.fill.specs.Inner.Verify.{Right, AxisRight, AllRight};
+ghost use Rattle.fill.specs.Inner.Verify.{Right, AxisRight, AllRight, WholeChecked};
+
+// With no cell missing a filling is a check of the cube.
+pub(crate) fn whole(cube: &[u8], sh: Shape) -> FillAnswer
+    requires { ⌜ Valid sh × (length (now cube) ≡ sh .w * cells sh) ⌝ }
+    ensures { λ r. ⌜ WholeChecked reduction sh (now (cube .entry)) (fillValue r) ⌝ }
+{
+    if is_code(cube, sh) {
+        FillAnswer::Left(0)
+    } else {
+        FillAnswer::Refused(Refusal::Plain(Fault::Contradiction))
+    }
+}
 
 // Where no cell is missing every line counts, and the check of a whole cube is faster: it takes the lines in wide runs.
 pub(crate) fn verify(cube: &[u8], flags: &[u8], sh: Shape) -> bool
@@ -20,6 +39,14 @@ pub(crate) fn verify(cube: &[u8], flags: &[u8], sh: Shape) -> bool
     if !shape::flags::none_missing(flags) {
         return verify_lines(cube, flags, sh);
     }
+    is_code(cube, sh)
+}
+
+// Whether a cube of this shape is a code cube.
+fn is_code(cube: &[u8], sh: Shape) -> bool
+    requires { ⌜ Valid sh × (length (now cube) ≡ sh .w * cells sh) ⌝ }
+    ensures { λ r. ⌜ Decides (CodeCube reduction sh (now (cube .entry))) r ⌝ }
+{
     match cube::is_code_cube(cube, sh) {
         CubeCheck::Code(code) => code,
         CubeCheck::Refused(_) => false,

@@ -1,6 +1,5 @@
--- `fill::fill` leaves the filling where one exists, and else says 13 and leaves the missing cells 00h.
-use mathlib.Core.Path.{_≡_}
-use native.Mathlib.Omega.{arith}
+-- `fill::fill` refuses what the checks refuse, checks a cube with no cell missing, and fills any other.
+use mathlib.Core.Path.{_≡_, sym, _∙_}
 use borrow.Author.Needs.{needs}
 use denote.Ref.{now}
 use lib.ListN.{length}
@@ -9,22 +8,17 @@ use Rattle.answer.proofs.Values.{answer-passed}
 use Rattle.fill.specs.Fill.{flagsChecked}
 use Rattle.fill.specs.Inner.Cells.{Sized}
 use Rattle.fill.proofs.Checks.{done-sized}
-use Rattle.fill.proofs.Clearing.{cleared-sized}
-use Rattle.span.proofs.Decision.{decides-false}
-use Rattle.fill.proofs.Reaching.{reaches-sized}
-use Rattle.fill.proofs.Outcome.{fill-unfit, filled-outcome, contradiction-outcome}
+use Rattle.fill.proofs.Outcome.{fill-unfit}
+use Rattle.fill.proofs.Whole.{whole-outcome}
 use Rattle.fill.proofs.fill.Statement.{statement}
 use Rattle.fill.proofs.fill.Tie as tie
 
 done :
-    (c : tie.After-enum-told) →
-    flagsChecked (c .before .before .before .before .before .before .args .sh) (length (now (c .before .before .before .before .before .before .args .cube))) (now (c .before .before .before .before .before .before .args .flags)) ≡ passes tt
+    (c : tie.After-enum-told) → flagsChecked (c .before .before .before .before .before .before .args .sh) (length (now (c .before .before .before .before .before .before .args .cube))) (now (c .before .before .before .before .before .before .args .flags)) ≡ passes tt
 done c = answer-passed _ _ (c .before .before .check .ensures) (c .enum-told .given .1)
 
-verified :
-    (c : tie.After-peel) → Sized (c .before .before .before .before .before .before .before .before .before .before .before .before .before .before .args .sh) (c .peel .last .0) (c .peel .last .1 .0)
-verified c =
-    reaches-sized (cleared-sized _ _ _ _ _ (done-sized _ _ _ (done (c .before .before .before .before .before .before .before .before))) (c .before .before .before .before .before .clear-missing .ensures)) (c .peel .ensures .reaches)
+sized : (c : tie.After-enum-told) → Sized (c .before .before .before .before .before .before .args .sh) (now (c .before .before .before .before .before .before .args .cube)) (now (c .before .before .before .before .before .before .args .flags))
+sized c = done-sized _ _ _ (done c)
 
 check-requires : tie.Need-check-requires
 check-requires c κs = search needs
@@ -41,20 +35,11 @@ returns c = fill-unfit _ _ _ _ _ _ (c .before .before .before .check .ensures) (
 enum-told : tie.Need-enum-told
 enum-told c = search needs
 
-clear-missing-requires : tie.Need-clear-missing-requires
-clear-missing-requires c κs = done-sized _ _ _ (done (c .before .before))
+none-missing-requires : tie.Need-none-missing-requires
+none-missing-requires c κs = search needs
 
-peel-requires : tie.Need-peel-requires
-peel-requires c κs = cleared-sized _ _ _ _ _ (done-sized _ _ _ (done (c .before .before .before .before .before .before .before))) (c .before .before .before .before .clear-missing .ensures)
-
-verify-requires : tie.Need-verify-requires
-verify-requires c κs = verified (c .before .before .before .before .before .before)
-
-settle-requires : tie.Need-settle-requires
-settle-requires c κs = search needs
-
-restore-requires : tie.Need-restore-requires
-restore-requires c κs = verified (c .before .before .before .before .before .before .before .before .before .before)
+whole-requires : tie.Need-whole-requires
+whole-requires c κs = (sized (c .before .before .before .before) .valid, sized (c .before .before .before .before) .bytes)
 
 same-length-2 : tie.Need-same-length-2
 same-length-2 c = search needs
@@ -63,9 +48,10 @@ same-length-3 : tie.Need-same-length-3
 same-length-3 c = search needs
 
 returns-2 : tie.Need-returns-2
-returns-2 c =
-    filled-outcome _ _ _ _ _ _ _ (done (c .before .before .before .before .before .before .before .before .before .before .before .before .before .before .before .before .before .before .before .before)) (c .before .before .before .before .before .before .before .before .before .before .before .before .before .before .before .before .before .clear-missing .ensures) (c .before .before .before .before .before .before .before .before .before .before .before .before .peel .ensures) _ (c .before .before .settle .ensures .0)
-    (λ q. omega (arith, c .before .before .before .before .before .before .before .before .before .before .slice-known4 .given q)) (c .before .before .before .before .before .verify .ensures .yes-then (c .before .before .before .before .if1 .taken)) _ (c .before .before .settle .ensures .1)
+returns-2 c = whole-outcome _ _ _ _ (sym (c .before .before .before .none-missing .ensures) ∙ c .before .before .if1 .taken) (done (c .before .before .before .before .before)) _ (c .whole .ensures)
+
+fill-missing-requires : tie.Need-fill-missing-requires
+fill-missing-requires c κs = done (c .before .before .before .before .before)
 
 same-length-4 : tie.Need-same-length-4
 same-length-4 c = search needs
@@ -74,9 +60,7 @@ same-length-5 : tie.Need-same-length-5
 same-length-5 c = search needs
 
 returns-3 : tie.Need-returns-3
-returns-3 c =
-    contradiction-outcome _ _ _ _ _ _ _ (done (c .before .before .before .before .before .before .before .before .before .before .before .before .before .before .before .before .before .before .before .before .before .before .before)) (c .before .before .before .before .before .before .before .before .before .before .before .before .before .before .before .before .before .before .before .before .clear-missing .ensures) (c .before .before .before .before .before .before .before .before .before .before .before .before .before .before .before .peel .ensures) _ _ (c .before .before .before .before .restore .ensures .0)
-    (c .before .before .before .before .restore .ensures .1) (decides-false (c .before .before .before .before .before .before .before .before .verify .ensures) (c .before .before .before .before .before .before .before .if1 .left))
+returns-3 c = search needs
 
 pub fill-spec : {M : Type 1} → statement M
 fill-spec =
@@ -87,14 +71,12 @@ fill-spec =
     same-length
     returns
     enum-told
-    clear-missing-requires
-    peel-requires
-    verify-requires
-    settle-requires
-    restore-requires
+    none-missing-requires
+    whole-requires
     same-length-2
     same-length-3
     returns-2
+    fill-missing-requires
     same-length-4
     same-length-5
     returns-3)
