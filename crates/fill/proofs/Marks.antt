@@ -13,7 +13,7 @@ use lib.ListN.{length, getD, set, length-set}
 use lib.Seq.{getD-set-same, getD-set-other}
 use Rattle.shape.proofs.Valid.{both-parts, both-true}
 use Rattle.stopping.specs.Stopping.{number}
-use Rattle.stopping.proofs.Number.{number-in, number-out, number-cong, number-remove}
+use Rattle.stopping.proofs.Number.{number-in, number-out, number-cong}
 use Rattle.shape.specs.Flags.{missing, flagsValid, noneMissing}
 use Rattle.fill.specs.Inner.Cells.{filled, Remarked}
 
@@ -141,14 +141,6 @@ not-missing fs n ne = ne-eqb (getD fs n 0) 1 ne
 pub missing-cong : (fs gs : List ℕ) (n : ℕ) → getD gs n 0 ≡ getD fs n 0 → missing gs n ≡ missing fs n
 unfolding missing
 missing-cong fs gs n e = ap (λ (f : ℕ). eqb f 1) e
-
--- one missing cell marked
-pub missing-mark : (fs : List ℕ) (n a : ℕ) → a < n → n ≤ length fs → missing fs a ≡ true
-    → number (missing fs) n ≡ number (missing (set fs a 3)) n + 1
-missing-mark fs n a l fits e =
-    number-remove (missing fs) (missing (set fs a 3)) n a l e
-    (not-missing (set fs a 3) a (λ f. let g : _≡_ {A = ℕ} 3 1 = sym (getD-set-same fs a 3 0 (omega arith)) ∙ f in omega arith))
-    (λ i m ne. sym (missing-cong fs (set fs a 3) i (getD-set-other fs a i 3 0 ne)))
 
 module _ (fs : List ℕ) (a b : ℕ) where
   -- the flags with a and b marked

@@ -1,5 +1,5 @@
 -- The cells of a set on a line, place after place: their number and, while there are one or two, which they are.
-use mathlib.Core.Path.{_≡_, refl, sym, ap, _∙_}
+use mathlib.Core.Path.{_≡_, refl, sym, ap, subst, _∙_}
 use mathlib.Core.Bool.{Bool, true, false}
 use mathlib.Core.Logic.{_≢_}
 use Prim.Native.Nat.{ℕ, _+_, _*_, _≤_, _<_}
@@ -8,7 +8,7 @@ use native.Mathlib.Decide.{ℕ-discrete}
 use native.Mathlib.Omega.{arith}
 use Rattle.stopping.specs.Stopping.{number, onLine}
 use Rattle.stopping.proofs.Number.{number-nil, number-in, number-out, number-zero}
-use Rattle.fill.specs.Inner.Peel.{Scanned}
+use Rattle.fill.specs.Inner.Peel.{Scanned, Alike}
 
 module _ (M : ℕ → Bool) (start stride : ℕ) where
   line-in : (n : ℕ) → M (start + stride * n) ≡ true → onLine M start stride (n + 1) ≡ onLine M start stride n + 1
@@ -89,4 +89,28 @@ module _ (M : ℕ → Bool) (start stride : ℕ) where
         others = λ l i m a b.
             let same : first ≡ last = s .one (omega arith) in
             s .others (omega arith) i (omega arith) a (λ g. a (g ∙ sym same));
+      }
+
+-- ---- neighbouring lines with the same cells of a set
+
+module _ {M : ℕ → Bool} {first stride len count j k : ℕ} where
+  pub alike-one : 1 ≤ count → count ≤ 2 → Scanned M first stride len count j k → Alike M first stride len 1 count j k
+  alike-one some few s =
+      record {
+        some = some;
+        few = few;
+        each = λ q l. let e : first ≡ first + q = omega arith in subst (λ (f : ℕ). Scanned M f stride len count j k) e s;
+      }
+
+  pub alike-more : {n c a b : ℕ} → Alike M first stride len n count j k → Scanned M (first + n) stride len c a b → c ≡ count → a ≡ j → b ≡ k
+      → Alike M first stride len (n + 1) count j k
+  alike-more {n} h s ec ea eb =
+      record {
+        some = h .some;
+        few = h .few;
+        each = λ q l.
+            elim (ℕ-discrete q n) [
+              | yes e ↦ subst (λ (x : ℕ). Scanned M (first + x) stride len count j k) (sym e) (rw (ec, ea, eb) at s)
+              | no ne ↦ h .each q (omega arith)
+            ];
       }

@@ -1,16 +1,18 @@
-// One line: which of its cells are missing, and filling it where they are one or two.
+// Lines: which of a line's cells are missing, and filling them where they are one or two, for neighbouring lines that miss the same
+// places at once.
 use crate::wake;
 use line::Run;
 use shape::Line;
 use shape::Shape;
 ghost use mathlib.Core.Path.{_≡_};
-ghost use Prim.Native.Nat.{_+_, _*_, _≤_};
+ghost use Prim.Native.Nat.{ℕ, _+_, _*_, _≤_, _<_};
 ghost use lib.ListN.{length, set};
-ghost use Rattle.shape.specs.Shapes.{IsLine};
+ghost use Rattle.shape.specs.Shapes.{Valid, cells};
 ghost use Rattle.shape.specs.Flags.{missing};
 ghost use Rattle.field.specs.Field.{reduction};
+ghost use Rattle.line.proofs.Runs.{Solved};
 ghost use Rattle.fill.specs.Inner.Cells.{Sized};
-ghost use Rattle.fill.specs.Inner.Peel.{Places, Scanned, Stops, Filled, LineVisited};
+ghost use Rattle.fill.specs.Inner.Peel.{Places, Scanned, Woken, Neighbours, Alike, Marked, LinesVisited, runOf};
 
 // The missing cells of a line: how many, and the first and the last place.
 pub(crate) struct MissingPlaces {
@@ -19,55 +21,120 @@ pub(crate) struct MissingPlaces {
     pub last: usize,
 }
 
-// Fills a line that misses one or two cells, and wakes the lines through them; answers how many cells it filled.
-pub(crate) fn fill_line(
+// How many neighbouring lines were visited, and how many cells filled on them.
+pub(crate) struct Progress {
+    pub lines: usize,
+    pub filled: usize,
+}
+
+// Visits a line: where it misses one or two cells, fills it together with the lines beside it that miss the same places. `most` lines
+// stand side by side.
+pub(crate) fn fill_lines(
     cube: &mut [u8],
     flags: &mut [u8],
     marks: &mut [u8; 24576],
     sh: Shape,
     line: Line,
-) -> usize
+    most: usize,
+) -> Progress
     requires { ⌜ Sized sh (now cube) (now flags) ⌝ }
-    requires { ⌜ IsLine sh (line .first) (line .stride) (line .len) ⌝ }
+    requires { ⌜ Neighbours sh (line .first) (line .stride) (line .len) most ⌝ }
     requires { ⌜ length (now marks) ≡ 24576 ⌝ }
-    ensures { λ r. ⌜ LineVisited reduction sh (line .first) (line .stride) (line .len) (now (cube .entry)) (now (flags .entry)) (now (marks .entry)) (now (cube .exit)) (now (flags .exit)) (now (marks .exit)) r ⌝ }
+    ensures { λ r. ⌜ (1 ≤ r .lines) × (r .lines ≤ most) ⌝ }
+    ensures { λ r. ⌜ LinesVisited reduction sh (line .first) (line .stride) (line .len) (r .lines) (now (cube .entry)) (now (flags .entry)) (now (marks .entry)) (now (cube .exit)) (now (flags .exit)) (now (marks .exit)) (r .filled) ⌝ }
 {
     let e = scan(flags, line);
     let count = e.count;
     if count == 0 || 2 < count {
-        return 0;
+        return Progress {
+            lines: 1,
+            filled: 0,
+        };
     }
-    recover(cube, flags, sh, line, e);
-    wake::wake(marks, sh, line.first + line.stride * e.first);
-    wake::wake(marks, sh, line.first + line.stride * e.last);
-    count
+    let n = alike(flags, line, e, most);
+    recover(cube, sh, line, e, n);
+    mark(flags, marks, sh, line, e, n);
+    Progress {
+        lines: n,
+        filled: count * n,
+    }
 }
 
-// Writes the one or two missing cells of a line, and gives them flag 3.
-fn recover(cube: &mut [u8], flags: &mut [u8], sh: Shape, line: Line, e: MissingPlaces)
-    requires { ⌜ Sized sh (now cube) (now flags) ⌝ }
-    requires { ⌜ IsLine sh (line .first) (line .stride) (line .len) ⌝ }
+// How many lines from this one on miss the same one or two places.
+fn alike(flags: &[u8], line: Line, e: MissingPlaces, most: usize) -> usize
+    requires { ⌜ (1 ≤ most) × (1 ≤ e .count) × (e .count ≤ 2) ⌝ }
+    requires { ⌜ ((q : ℕ) → q < most → Places (now flags) (line .first + q) (line .stride) (line .len)) ⌝ }
     requires { ⌜ Scanned (missing (now flags)) (line .first) (line .stride) (line .len) (e .count) (e .first) (e .last) ⌝ }
-    requires { ⌜ (1 ≤ e .count) × (e .count ≤ 2) ⌝ }
-    ensures { λ _. ⌜ Filled reduction sh (λ gs. Stops gs (line .first) (line .stride) (line .len)) (now (cube .entry)) (now (flags .entry)) (now (cube .exit)) (now (flags .exit)) (e .count) ⌝ }
-    ensures { λ _. ⌜ now (flags .exit) ≡ set (set (now (flags .entry)) (line .first + line .stride * e .first) 3) (line .first + line .stride * e .last) 3 ⌝ }
+    ensures { λ r. ⌜ (1 ≤ r) × (r ≤ most) × Alike (missing (now (flags .entry))) (line .first) (line .stride) (line .len) r (e .count) (e .first) (e .last) ⌝ }
+{
+    let mut n = 1;
+    while n < most {
+        let next = Line {
+            first: line.first + n,
+            stride: line.stride,
+            len: line.len,
+        };
+        let s = scan(flags, next);
+        if s.count != e.count || s.first != e.first || s.last != e.last {
+            return n;
+        }
+        n += 1;
+    }
+    n
+}
+
+// Writes the missing cells of n neighbouring lines.
+fn recover(cube: &mut [u8], sh: Shape, line: Line, e: MissingPlaces, n: usize)
+    requires { ⌜ Valid sh × (length (now cube) ≡ sh .w * cells sh) ⌝ }
+    requires { ⌜ Neighbours sh (line .first) (line .stride) (line .len) n ⌝ }
+    requires { ⌜ (e .first ≤ e .last) × (e .last < line .len) ⌝ }
+    ensures { λ _. ⌜ Solved reduction (runOf sh (line .first) (line .stride) (line .len) n) (e .first) (e .last) (now (cube .entry)) (now (cube .exit)) ⌝ }
+{
+    let w = sh.w;
+    let run = Run {
+        first: line.first * w,
+        stride: line.stride * w,
+        len: line.len,
+        width: n * w,
+    };
+    let reduction = field::reduction();
+    let erasures = line::erasures_at(reduction, e.first as u8, e.last as u8);
+    line::solve(cube, reduction, run, erasures);
+}
+
+// Gives the missing cells of n neighbouring lines flag 3, and wakes the lines through them.
+fn mark(
+    flags: &mut [u8],
+    marks: &mut [u8; 24576],
+    sh: Shape,
+    line: Line,
+    e: MissingPlaces,
+    n: usize,
+)
+    requires { ⌜ Valid sh × (length (now flags) ≡ cells sh) × (length (now marks) ≡ 24576) ⌝ }
+    requires { ⌜ Neighbours sh (line .first) (line .stride) (line .len) n ⌝ }
+    requires { ⌜ (e .first ≤ e .last) × (e .last < line .len) ⌝ }
+    ensures { λ _. ⌜ Marked sh (line .first) (line .stride) n (e .first) (e .last) (now (flags .entry)) (now (marks .entry)) (now (flags .exit)) (now (marks .exit)) ⌝ }
 {
     let first = line.first;
     let stride = line.stride;
-    let w = sh.w;
     let j = e.first;
     let k = e.last;
-    let run = Run {
-        first: first * w,
-        stride: stride * w,
-        len: line.len,
-        width: w,
-    };
-    let reduction = field::reduction();
-    let erasures = line::erasures_at(reduction, j as u8, k as u8);
-    line::solve(cube, reduction, run, erasures);
-    flags[first + stride * j] = 3;
-    flags[first + stride * k] = 3;
+    let mut q = 0;
+    while q < n {
+        mark_cell(flags, marks, sh, first + q + stride * j);
+        mark_cell(flags, marks, sh, first + q + stride * k);
+        q += 1;
+    }
+}
+
+fn mark_cell(flags: &mut [u8], marks: &mut [u8; 24576], sh: Shape, n: usize)
+    requires { ⌜ Valid sh × (n < cells sh) × (length (now flags) ≡ cells sh) × (length (now marks) ≡ 24576) ⌝ }
+    ensures { λ _. ⌜ now (flags .exit) ≡ set (now (flags .entry)) n 3 ⌝ }
+    ensures { λ _. ⌜ Woken sh n (now (marks .entry)) (now (marks .exit)) ⌝ }
+{
+    flags[n] = 3;
+    wake::wake(marks, sh, n);
 }
 
 pub(crate) fn scan(flags: &[u8], line: Line) -> MissingPlaces

@@ -1,11 +1,12 @@
 // Peeling: sweeps over axis 1, 2, 3 and again, until three axes in succession fill nothing. A sweep passes over the lines that nothing has
 // changed on since their last visit: a line that was left then is left now.
 use crate::on_line;
+use crate::on_line::Progress;
 use crate::wake;
 use shape::LineAnswer;
 use shape::Shape;
 ghost use mathlib.Core.Path.{_≡_};
-ghost use Prim.Native.Nat.{_+_, _*_, _≤_, _<_};
+ghost use Prim.Native.Nat.{_+_, _*_, _%_, _≤_, _<_};
 ghost use lib.ListN.{length};
 ghost use Rattle.field.specs.Field.{reduction};
 ghost use Rattle.fill.specs.Inner.Cells.{Sized};
@@ -99,13 +100,14 @@ fn eight(
     let mut filled = 0;
     let mut m = from;
     while m < from + 8 {
-        filled += visit(cube, flags, marks, sh, axis, m);
-        m += 1;
+        let step = visit(cube, flags, marks, sh, axis, m, from + 8);
+        filled += step.filled;
+        m += step.lines;
     }
     filled
 }
 
-// Visits line m of an axis, if there is one.
+// Visits line m of an axis, if there is one, and perhaps lines after it, all below `end`.
 fn visit(
     cube: &mut [u8],
     flags: &mut [u8],
@@ -113,14 +115,29 @@ fn visit(
     sh: Shape,
     axis: usize,
     m: usize,
-) -> usize
+    end: usize,
+) -> Progress
     requires { ⌜ Sized sh (now cube) (now flags) ⌝ }
-    requires { ⌜ (1 ≤ axis) × (axis ≤ 3) × (length (now marks) ≡ 24576) ⌝ }
-    ensures { λ r. ⌜ Visited reduction sh axis m (m + 1) (now (cube .entry)) (now (flags .entry)) (now (marks .entry)) (now (cube .exit)) (now (flags .exit)) (now (marks .exit)) r ⌝ }
+    requires { ⌜ (1 ≤ axis) × (axis ≤ 3) × (m < end) × (length (now marks) ≡ 24576) ⌝ }
+    ensures { λ r. ⌜ (1 ≤ r .lines) × (m + r .lines ≤ end) ⌝ }
+    ensures { λ r. ⌜ Visited reduction sh axis m (m + r .lines) (now (cube .entry)) (now (flags .entry)) (now (marks .entry)) (now (cube .exit)) (now (flags .exit)) (now (marks .exit)) (r .filled) ⌝ }
 {
     let found = shape::axis_line(sh, axis, m);
     let LineAnswer::Found(line) = found else {
-        return 0;
+        return Progress {
+            lines: 1,
+            filled: 0,
+        };
     };
-    on_line::fill_line(cube, flags, marks, sh, line)
+    on_line::fill_lines(cube, flags, marks, sh, line, beside(line.stride, m, end))
+}
+
+// How many lines stand side by side from line m on, all below `end`: a block of an axis has `stride` of them.
+fn beside(stride: usize, m: usize, end: usize) -> usize
+    requires { ⌜ (0 < stride) × (m < end) ⌝ }
+    ensures { λ r. ⌜ (1 ≤ r) × (m + r ≤ end) × (m % stride + r ≤ stride) ⌝ }
+{
+    let block = stride - m % stride;
+    let rest = end - m;
+    if block < rest { block } else { rest }
 }

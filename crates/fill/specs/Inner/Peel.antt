@@ -11,6 +11,7 @@ use Rattle.shape.specs.Flags.{missing}
 use Rattle.shape.proofs.Geometry.{On}
 use Rattle.data.specs.Data.{layer}
 use Rattle.cube.specs.Cube.{layerLine}
+use Rattle.line.specs.declared.Run.{Run}
 use Rattle.line.specs.Line.{Codeword}
 use Rattle.stopping.specs.Stopping.{number, onLine, Stopping}
 
@@ -111,24 +112,64 @@ pub record Keeps (sh : Shape) (fs ms fs′ ms′ : List ℕ) : Type 0 where
       (axis m : ℕ) → 1 ≤ axis → axis ≤ 3 → m < linesOf sh axis → Quiet ms′ axis m →
       LineStops sh fs axis m → LineStops sh fs′ axis m
 
+-- every line through cell n is awake
+unfoldable pub Awake : Shape → List ℕ → ℕ → Type 0
+Awake sh ms n = (axis m i : ℕ) → 1 ≤ axis → axis ≤ 3 → On sh axis n m i → Quiet ms axis m → ⊥
+
 -- Lines were only woken, among them every line through cell n.
 pub record Woken (sh : Shape) (n : ℕ) (ms ms′ : List ℕ) : Type 0 where
   pub size : length ms′ ≡ length ms
   pub falls : (axis m : ℕ) → Quiet ms′ axis m → Quiet ms axis m
-  pub through : (axis m i : ℕ) → 1 ≤ axis → axis ≤ 3 → On sh axis n m i → Quiet ms′ axis m → ⊥
+  pub through : Awake sh ms′ n
 
 -- From group lo on every group below hi is quiet.
 pub record AllQuiet (ms : List ℕ) (axis lo hi : ℕ) : Type 0 where
   pub each : (g : ℕ) → lo ≤ g → g < hi → getD ms (markAt axis g) 0 ≡ 1
-
--- A visit of one line: afterwards it is not to be peeled.
-pub record LineVisited (r : ℕ) (sh : Shape) (first stride len : ℕ) (xs fs ms xs′ fs′ ms′ : List ℕ) (count : ℕ) : Type 0 where
-  pub filled : Filled r sh (λ gs. Stops gs first stride len) xs fs xs′ fs′ count
-  pub keeps : Keeps sh fs ms fs′ ms′
-  pub after : Stops fs′ first stride len
 
 -- A visit of the lines of an axis from lo on and below hi: those that are quiet afterwards are not to be peeled.
 pub record Visited (r : ℕ) (sh : Shape) (axis lo hi : ℕ) (xs fs ms xs′ fs′ ms′ : List ℕ) (count : ℕ) : Type 0 where
   pub filled : Filled r sh (LinesStop sh axis lo hi) xs fs xs′ fs′ count
   pub keeps : Keeps sh fs ms fs′ ms′
   pub after : (m : ℕ) → lo ≤ m → m < hi → m < linesOf sh axis → Quiet ms′ axis m → LineStops sh fs′ axis m
+
+-- ---- neighbouring lines that miss the same places
+
+-- n lines side by side
+pub record Neighbours (sh : Shape) (first stride len n : ℕ) : Type 0 where
+  pub some : 1 ≤ n
+  pub apart : n ≤ stride
+  pub each : (q : ℕ) → q < n → IsLine sh (first + q) stride len
+
+-- each of them has the same one or two cells of M
+pub record Alike (M : ℕ → Bool) (first stride len n count j k : ℕ) : Type 0 where
+  pub some : 1 ≤ count
+  pub few : count ≤ 2
+  pub each : (q : ℕ) → q < n → Scanned M (first + q) stride len count j k
+
+-- the cells at the places j and k of these lines
+pub data Hole (first stride n j k : ℕ) : ℕ → Type 0 where
+  earlier : (q : ℕ) → q < n → Hole first stride n j k (first + q + stride * j)
+  later : (q : ℕ) → q < n → Hole first stride n j k (first + q + stride * k)
+
+-- These cells have got flag 3, and every line through one of them was woken.
+pub record Marked (sh : Shape) (first stride n j k : ℕ) (fs ms fs′ ms′ : List ℕ) : Type 0 where
+  pub flags : length fs′ ≡ length fs
+  pub size : length ms′ ≡ length ms
+  pub filled : (m : ℕ) → Hole first stride n j k m → getD fs′ m 0 ≡ 3
+  pub others : (m : ℕ) → (Hole first stride n j k m → ⊥) → getD fs′ m 0 ≡ getD fs m 0
+  pub falls : (axis m : ℕ) → Quiet ms′ axis m → Quiet ms axis m
+  pub through : (m : ℕ) → Hole first stride n j k m → Awake sh ms′ m
+
+-- n neighbouring lines are not peeled
+unfoldable pub AllStop : ℕ → ℕ → ℕ → ℕ → List ℕ → Type 0
+AllStop first stride len n fs = (q : ℕ) → q < n → Stops fs (first + q) stride len
+
+-- A visit of n neighbouring lines: afterwards they are not to be peeled.
+pub record LinesVisited (r : ℕ) (sh : Shape) (first stride len n : ℕ) (xs fs ms xs′ fs′ ms′ : List ℕ) (count : ℕ) : Type 0 where
+  pub filled : Filled r sh (AllStop first stride len n) xs fs xs′ fs′ count
+  pub keeps : Keeps sh fs ms fs′ ms′
+  pub after : AllStop first stride len n fs′
+
+-- n neighbouring lines as a run of byte lines: layer t of line q is the run's line q * w + t
+unfoldable pub runOf : Shape → ℕ → ℕ → ℕ → ℕ → Run
+runOf sh first stride len n = record { first = first * sh .w; stride = stride * sh .w; len = len; width = n * sh .w }

@@ -1,4 +1,4 @@
--- `fill::peel::eight` visits eight lines of an axis, one after the other.
+-- `fill::peel::eight` visits eight lines of an axis, some of them side by side at once.
 use mathlib.Core.Path.{_≡_, _∙_}
 use Prim.Native.Nat.{_+_, _-_, _≤_}
 use native.Mathlib.Omega.{arith}
@@ -17,12 +17,12 @@ Inv-loop cube₀ flags₀ marks₀ sh axis from filled₀ m₀ cube flags marks 
 abbrev μ-loop : tie.MeasureT-loop
 μ-loop cube₀ flags₀ marks₀ sh axis from filled₀ m₀ cube flags marks filled m = from + 8 - m
 
--- one line more
+-- some lines more
 visited :
-    (c : tie.After-slice-known4 Inv-loop μ-loop) →
-    Visited reduction (c .before .before .before .before .before .before .before .before .before .before .before .before .args .sh) (c .before .before .before .before .before .before .before .before .before .before .before .before .args .axis) (c .before .before .before .before .before .before .before .before .before .before .before .before .args .from) (c .before .before .before .before .before .before .before .before .before .loop .m + 1) (now (c .before .before .before .before .before .before .before .before .before .before .before .before .args .cube)) (now (c .before .before .before .before .before .before .before .before .before .before .before .before .args .flags))
-    (now (c .before .before .before .before .before .before .before .before .before .before .before .before .args .marks)) (c .before .before .before .before .visit .last .0) (c .before .before .before .before .visit .last .1 .0) (c .before .before .before .before .visit .last .1 .1 .0) (c .before .before .before .before .before .before .before .before .before .loop .filled + c .before .before .before .before .visit .result)
-visited c = visited-next (c .before .before .before .before .before .before .before .before .before .before .before .before .pre .1 .0) (c .before .before .before .before .before .before .before .before .before .before .before .before .pre .1 .1) (c .before .before .before .before .before .before .before .before .before .loop .inv .2) (c .before .before .before .before .visit .ensures)
+    (c : tie.After-visit Inv-loop μ-loop) →
+    Visited reduction (c .before .before .before .before .before .before .before .before .args .sh) (c .before .before .before .before .before .before .before .before .args .axis) (c .before .before .before .before .before .before .before .before .args .from) (c .before .before .before .before .before .loop .m + c .visit .result .lines) (now (c .before .before .before .before .before .before .before .before .args .cube)) (now (c .before .before .before .before .before .before .before .before .args .flags))
+    (now (c .before .before .before .before .before .before .before .before .args .marks)) (c .visit .last .0) (c .visit .last .1 .0) (c .visit .last .1 .1 .0) (c .before .before .before .before .before .loop .filled + c .visit .result .filled)
+visited c = visited-next (c .before .before .before .before .before .before .before .before .pre .1 .0) (c .before .before .before .before .before .before .before .before .pre .1 .1) (c .before .before .before .before .before .loop .inv .2) (c .visit .ensures .1)
 
 loop-holds : tie.Need-loop-holds Inv-loop μ-loop
 loop-holds c = (omega arith, omega arith, visited-none _ _ _ _)
@@ -30,24 +30,26 @@ loop-holds c = (omega arith, omega arith, visited-none _ _ _ _)
 add-loop : tie.Need-add-loop Inv-loop μ-loop
 add-loop c = omega arith
 
+add-visit : tie.Need-add-visit Inv-loop μ-loop
+add-visit c = omega arith
+
 visit-requires : tie.Need-visit-requires Inv-loop μ-loop
 visit-requires c κs = (
   reaches-sized (c .before .before .before .before .before .before .before .pre .0) (c .before .before .before .before .loop .inv .2 .filled .reaches),
-  (c .before .before .before .before .before .before .before .pre .1 .0, c .before .before .before .before .before .before .before .pre .1 .1, c .before .before .before .before .loop .inv .2 .keeps .size ∙ c .before .before .before .before .before .before .before .pre .1 .3),
+  (c .before .before .before .before .before .before .before .pre .1 .0, c .before .before .before .before .before .before .before .pre .1 .1, omega arith, c .before .before .before .before .loop .inv .2 .keeps .size ∙ c .before .before .before .before .before .before .before .pre .1 .3),
 )
 
 add-filled : tie.Need-add-filled Inv-loop μ-loop
-add-filled c = omega (arith, filled-le (visited c .filled), c .before .before .before .before .before .before .before .before .before .before .before .before .pre .0 .flags)
+add-filled c = omega (arith, filled-le (visited (c .before .before .before .before .before) .filled), c .before .before .before .before .before .before .before .before .before .before .before .before .before .pre .0 .flags)
 
 add-m : tie.Need-add-m Inv-loop μ-loop
-add-m c = omega arith
+add-m c = omega (arith, c .before .before .before .before .before .before .visit .ensures .0, c .before .before .before .before .before .before .before .before .before .before .before .before .before .before .pre .1)
 
 loop-less : tie.Need-loop-less Inv-loop μ-loop
-loop-less c = omega arith
+loop-less c = omega (arith, c .before .before .before .before .before .before .visit .ensures .0, c .before .before .before .before .before .before .before .before .before .before .before .loop .inv)
 
 loop-again : tie.Need-loop-again Inv-loop μ-loop
-loop-again c =
-    (omega arith, omega arith, visited c)
+loop-again c = (omega (arith, c .before .before .before .before .before .before .before .before .before .before .before .loop .inv), c .before .before .before .before .before .before .visit .ensures .0 .1, visited (c .before .before .before .before .before .before))
 
 same-length : tie.Need-same-length Inv-loop μ-loop
 same-length c = c .before .loop .inv .2 .filled .reaches .size
@@ -66,6 +68,7 @@ eight-spec =
     μ-loop
     loop-holds
     add-loop
+    add-visit
     visit-requires
     add-filled
     add-m

@@ -1,17 +1,17 @@
--- `fill::peel::visit` fills line m of an axis, or finds that there is none.
+-- `fill::peel::visit` fills line m of an axis and perhaps its neighbours, or finds that there is none.
 use mathlib.Core.Path.{_≡_}
+use native.Mathlib.Omega.{arith}
 use borrow.Author.Needs.{needs}
 use Rattle.answer.specs.Values.{passes}
 use Rattle.shape.specs.Shapes.{lineOf}
 use Rattle.shape.proofs.Valid.{line-told, line-refused}
-use Rattle.shape.proofs.Geometry.{line-found}
+use Rattle.shape.proofs.Geometry.{line-found, line-stride-pos}
 use Rattle.cube.proofs.AxisRuns.{lines-ended}
-use Rattle.fill.proofs.Awake.{visited-past, visited-line}
+use Rattle.fill.proofs.Awake.{neighbours-of, visited-past, visited-lines}
 use Rattle.fill.proofs.peel.visit.Statement.{statement}
 use Rattle.fill.proofs.peel.visit.Tie as tie
 
-found :
-    (c : tie.After-known-told) → lineOf (c .before .before .before .before .before .before .args .sh) (c .before .before .before .before .before .before .args .axis) (c .before .before .before .before .before .before .args .m) ≡ passes (c .before .found .given .0 .0)
+found : (c : tie.After-known-told) → lineOf (c .before .before .before .before .before .before .args .sh) (c .before .before .before .before .before .before .args .axis) (c .before .before .before .before .before .before .args .m) ≡ passes (c .before .found .given .0 .0)
 found c = line-told _ _ _ _ _ (c .before .before .before .axis-line .ensures) (c .before .found .given .1)
 
 axis-line-requires : tie.Need-axis-line-requires
@@ -24,12 +24,18 @@ enum-told : tie.Need-enum-told
 enum-told c = search needs
 
 returns : tie.Need-returns
-returns c =
-    visited-past _ _ _ _
-    (lines-ended _ _ _ _ (c .before .before .before .before .before .pre .0 .valid) (c .before .before .before .before .before .pre .1 .0) (c .before .before .before .before .before .pre .1 .1) (line-refused _ _ _ _ _ (c .before .before .axis-line .ensures) (c .enum-told .given .1)))
+returns c = (
+  (omega arith, omega arith),
+  visited-past _ _ _ _
+      (lines-ended _ _ _ _ (c .before .before .before .before .before .pre .0 .valid) (c .before .before .before .before .before .pre .1 .0) (c .before .before .before .before .before .pre .1 .1) (line-refused _ _ _ _ _ (c .before .before .axis-line .ensures) (c .enum-told .given .1))),
+)
 
-fill-line-requires : tie.Need-fill-line-requires
-fill-line-requires c κs = (c .before .before .before .before .before .before .before .before .before .pre .0, (line-found _ _ _ _ (found (c .before .before .before)), c .before .before .before .before .before .before .before .before .before .pre .1 .2))
+beside-requires : tie.Need-beside-requires
+beside-requires c κs = (line-stride-pos _ _ _ _ (c .before .before .before .before .before .before .before .before .before .pre .0 .valid) (line-found _ _ _ _ (found (c .before .before .before))), c .before .before .before .before .before .before .before .before .before .pre .1 .2)
+
+fill-lines-requires : tie.Need-fill-lines-requires
+fill-lines-requires c κs =
+    (c .before .before .before .before .before .before .before .before .before .before .pre .0, (neighbours-of _ _ _ _ (found (c .before .before .before .before)) _ (c .beside .ensures .0) (c .beside .ensures .2), c .before .before .before .before .before .before .before .before .before .before .pre .1 .3))
 
 same-length : tie.Need-same-length
 same-length c = search needs
@@ -38,7 +44,10 @@ same-length-2 : tie.Need-same-length-2
 same-length-2 c = search needs
 
 returns-2 : tie.Need-returns-2
-returns-2 c = visited-line _ _ (found (c .before .before .before .before .before .before .before .before)) (c .before .before .before .before .fill-line .ensures)
+returns-2 c = (
+  (c .before .before .before .before .fill-lines .ensures .0 .0, omega (arith, c .before .before .before .before .fill-lines .ensures .0 .1, c .before .before .before .before .before .beside .ensures .1)),
+  visited-lines _ _ (found (c .before .before .before .before .before .before .before .before .before)) (omega (arith, c .before .before .before .before .fill-lines .ensures .0 .1, c .before .before .before .before .before .beside .ensures .2)) (c .before .before .before .before .fill-lines .ensures .1),
+)
 
 pub visit-spec : {M : Type 1} → statement M
 visit-spec =
@@ -48,7 +57,8 @@ visit-spec =
     enum-known-found
     enum-told
     returns
-    fill-line-requires
+    beside-requires
+    fill-lines-requires
     same-length
     same-length-2
     returns-2)

@@ -1,0 +1,97 @@
+-- `fill::on_line::fill_lines` fills a line that misses one or two cells with its neighbours that miss the same; a line with none or more is
+-- left.
+use mathlib.Core.Path.{sym, _∙_}
+use mathlib.Core.Logic.{inl, inr, ⊎-elim}
+use Prim.Native.Nat.{_*_, _≤_}
+use native.Mathlib.Omega.{arith}
+use borrow.Author.Needs.{needs}
+use borrow.Author.Tests.{ltb-true, ltb-false}
+use denote.Ref.{now}
+use Rattle.field.specs.Field.{reduction}
+use Rattle.field.proofs.Primitive.{primitive}
+use Rattle.fill.specs.Inner.Peel.{Neighbours, Filled, AllStop}
+use Rattle.fill.proofs.Lines.{line-places, neighbours-first, neighbours-fewer}
+use Rattle.fill.proofs.Reaching.{lines-filled, lines-stop, filled-le}
+use Rattle.fill.proofs.Awake.{lines-recovered, line-left}
+use Rattle.fill.proofs.on_line.fill_lines.Statement.{statement}
+use Rattle.fill.proofs.on_line.fill_lines.Tie as tie
+
+some : (c : tie.Else2) → 1 ≤ c .before .before .scan .result .count
+some c = omega (arith, c .before .if1 .left)
+
+few : (c : tie.Else2) → c .before .before .scan .result .count ≤ 2
+few c = ltb-false 2 _ (c .if2 .left)
+
+beside : (c : tie.After-alike) → Neighbours (c .before .before .before .before .before .before .before .before .args .sh) (c .before .before .before .before .before .before .before .before .args .line .first) (c .before .before .before .before .before .before .before .before .args .line .stride) (c .before .before .before .before .before .before .before .before .args .line .len) (c .alike .result)
+beside c = neighbours-fewer (c .before .before .before .before .before .before .before .before .pre .1 .0) (c .alike .ensures .0) (c .alike .ensures .1)
+
+filled :
+    (c : tie.After-mark) →
+    Filled reduction (c .before .before .before .before .before .before .before .before .before .before .before .before .before .before .before .args .sh) (AllStop (c .before .before .before .before .before .before .before .before .before .before .before .before .before .before .before .args .line .first) (c .before .before .before .before .before .before .before .before .before .before .before .before .before .before .before .args .line .stride) (c .before .before .before .before .before .before .before .before .before .before .before .before .before .before .before .args .line .len) (c .before .before .before .before .before .before .before .alike .result))
+    (now (c .before .before .before .before .before .before .before .before .before .before .before .before .before .before .before .args .cube)) (now (c .before .before .before .before .before .before .before .before .before .before .before .before .before .before .before .args .flags)) (c .before .before .before .before .before .recover .last .0) (c .mark .last .0) (c .before .before .before .before .before .before .before .before .before .before .before .scan .result .count * c .before .before .before .before .before .before .before .alike .result)
+filled c =
+    lines-filled _ _ _ _ _ _ (c .before .before .before .before .before .before .before .before .before .before .before .before .before .before .before .pre .0) _ _ _ _ _ _ _ (beside (c .before .before .before .before .before .before .before)) (c .before .before .before .before .before .before .before .alike .ensures .2) (c .mark .ensures) _ primitive _
+    (λ p. omega (arith, c .before .before .before .before .before .before .before .before .before .before .before .before .before .before .slice-known .given p)) (c .before .before .before .before .before .recover .ensures)
+
+scan-requires : tie.Need-scan-requires
+scan-requires c κs = line-places _ _ _ (c .before .before .before .pre .0) _ _ _ (neighbours-first (c .before .before .before .pre .1 .0))
+
+same-length : tie.Need-same-length
+same-length c = search needs
+
+returns : tie.Need-returns
+returns c = (
+  (omega arith, c .before .before .before .before .before .pre .1 .0 .some),
+  line-left _ _ _ _ _ _
+      (⊎-elim (λ w. inl (sym (c .before .scan .ensures .number) ∙ w .taken))
+      (λ w. inr (omega (arith, c .before .scan .ensures .number, ltb-true 2 (c .before .scan .result .count) (w .1 .taken)))) (c .if1 .came)),
+)
+
+alike-requires : tie.Need-alike-requires
+alike-requires c κs = (
+  (c .before .before .before .before .before .before .before .pre .1 .0 .some, some (c .before), few (c .before)),
+  (λ q h. line-places _ _ _ (c .before .before .before .before .before .before .before .pre .0) _ _ _ (c .before .before .before .before .before .before .before .pre .1 .0 .each q h), c .before .before .before .scan .ensures),
+)
+
+recover-requires : tie.Need-recover-requires
+recover-requires c κs = (
+  (c .before .before .before .before .before .before .before .before .before .pre .0 .valid, c .before .before .before .before .before .before .before .before .before .pre .0 .bytes),
+  (beside (c .before), (c .before .before .before .before .before .scan .ensures .order (some (c .before .before .before)), c .before .before .before .before .before .scan .ensures .bound (some (c .before .before .before)))),
+)
+
+mark-requires : tie.Need-mark-requires
+mark-requires c κs = (
+  (c .before .before .before .before .before .before .before .before .before .before .before .before .before .before .pre .0 .valid, c .before .before .before .before .before .before .before .before .before .before .before .before .before .before .pre .0 .flags, c .before .before .before .before .before .before .before .before .before .before .before .before .before .before .pre .1 .1),
+  (beside (c .before .before .before .before .before .before), (c .before .before .before .before .before .before .before .before .before .before .scan .ensures .order (some (c .before .before .before .before .before .before .before .before)), c .before .before .before .before .before .before .before .before .before .before .scan .ensures .bound (some (c .before .before .before .before .before .before .before .before)))),
+)
+
+mul-t22 : tie.Need-mul-t22
+mul-t22 c = omega (arith, filled-le (filled (c .before .before)), c .before .before .before .before .before .before .before .before .before .before .before .before .before .before .before .before .before .pre .0 .flags)
+
+same-length-2 : tie.Need-same-length-2
+same-length-2 c = search needs
+
+same-length-3 : tie.Need-same-length-3
+same-length-3 c = search needs
+
+returns-2 : tie.Need-returns-2
+returns-2 c = (
+  (c .before .before .before .before .before .before .before .before .before .alike .ensures .0, c .before .before .before .before .before .before .before .before .before .alike .ensures .1),
+  lines-recovered (filled (c .before .before))
+      (lines-stop _ _ _ _ _ _ (c .before .before .before .before .before .before .before .before .before .before .before .before .before .before .before .before .before .pre .0) _ _ _ _ _ _ _ (beside (c .before .before .before .before .before .before .before .before .before)) (c .before .before .before .before .before .before .before .before .before .alike .ensures .2) (c .before .before .mark .ensures)) (c .before .before .mark .ensures),
+)
+
+pub fill-lines-spec : {M : Type 1} → statement M
+fill-lines-spec =
+    tie.close
+    (tie.spec
+    scan-requires
+    same-length
+    returns
+    alike-requires
+    recover-requires
+    mark-requires
+    mul-t22
+    same-length-2
+    same-length-3
+    returns-2)
