@@ -1,4 +1,4 @@
--- A line of the cube as a run of byte lines, one a layer; and what holds of all lines of an axis, line after line.
+-- A line of the cube, and lines side by side, as a run of byte lines, one a layer; and what holds of all lines of an axis, line after line.
 use mathlib.Core.Path.{_≡_, sym, ap, subst, _∙_}
 use mathlib.Core.Bool.{Bool, true, false}
 use mathlib.Core.List.{List}

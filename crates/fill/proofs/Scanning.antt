@@ -1,4 +1,5 @@
--- The cells of a set on a line, place after place: their number and, while there are one or two, which they are.
+-- The cells of a set on a line, place after place: their number and, while there are one or two, which they are; and neighbouring lines with the
+-- same ones.
 use mathlib.Core.Path.{_≡_, refl, sym, ap, subst, _∙_}
 use mathlib.Core.Bool.{Bool, true, false}
 use mathlib.Core.Logic.{_≢_}

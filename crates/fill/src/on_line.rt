@@ -12,7 +12,7 @@ ghost use Rattle.shape.specs.Flags.{missing};
 ghost use Rattle.field.specs.Field.{reduction};
 ghost use Rattle.line.proofs.Runs.{Solved};
 ghost use Rattle.fill.specs.Inner.Cells.{Sized};
-ghost use Rattle.fill.specs.Inner.Peel.{Places, Scanned, Woken, Neighbours, Alike, Marked, LinesVisited, runOf};
+ghost use Rattle.fill.specs.Inner.Peel.{Places, Scanned, Woken, Neighbours, Alike, Flagged, LinesVisited, runOf};
 
 // The missing cells of a line: how many, and the first and the last place.
 pub(crate) struct MissingPlaces {
@@ -53,7 +53,7 @@ pub(crate) fn fill_lines(
     }
     let n = alike(flags, line, e, most);
     recover(cube, sh, line, e, n);
-    mark(flags, marks, sh, line, e, n);
+    flag_holes(flags, marks, sh, line, e, n);
     Progress {
         lines: n,
         filled: count * n,
@@ -103,7 +103,7 @@ fn recover(cube: &mut [u8], sh: Shape, line: Line, e: MissingPlaces, n: usize)
 }
 
 // Gives the missing cells of n neighbouring lines flag 3, and wakes the lines through them.
-fn mark(
+fn flag_holes(
     flags: &mut [u8],
     marks: &mut [u8; 24576],
     sh: Shape,
@@ -114,7 +114,7 @@ fn mark(
     requires { ⌜ Valid sh × (length (now flags) ≡ cells sh) × (length (now marks) ≡ 24576) ⌝ }
     requires { ⌜ Neighbours sh (line .first) (line .stride) (line .len) n ⌝ }
     requires { ⌜ (e .first ≤ e .last) × (e .last < line .len) ⌝ }
-    ensures { λ _. ⌜ Marked sh (line .first) (line .stride) n (e .first) (e .last) (now (flags .entry)) (now (marks .entry)) (now (flags .exit)) (now (marks .exit)) ⌝ }
+    ensures { λ _. ⌜ Flagged sh (line .first) (line .stride) n (e .first) (e .last) (now (flags .entry)) (now (marks .entry)) (now (flags .exit)) (now (marks .exit)) ⌝ }
 {
     let first = line.first;
     let stride = line.stride;
@@ -122,13 +122,13 @@ fn mark(
     let k = e.last;
     let mut q = 0;
     while q < n {
-        mark_cell(flags, marks, sh, first + q + stride * j);
-        mark_cell(flags, marks, sh, first + q + stride * k);
+        flag_hole(flags, marks, sh, first + q + stride * j);
+        flag_hole(flags, marks, sh, first + q + stride * k);
         q += 1;
     }
 }
 
-fn mark_cell(flags: &mut [u8], marks: &mut [u8; 24576], sh: Shape, n: usize)
+fn flag_hole(flags: &mut [u8], marks: &mut [u8; 24576], sh: Shape, n: usize)
     requires { ⌜ Valid sh × (n < cells sh) × (length (now flags) ≡ cells sh) × (length (now marks) ≡ 24576) ⌝ }
     ensures { λ _. ⌜ now (flags .exit) ≡ set (now (flags .entry)) n 3 ⌝ }
     ensures { λ _. ⌜ Woken sh n (now (marks .entry)) (now (marks .exit)) ⌝ }

@@ -152,7 +152,7 @@ pub data Hole (first stride n j k : ℕ) : ℕ → Type 0 where
   later : (q : ℕ) → q < n → Hole first stride n j k (first + q + stride * k)
 
 -- These cells have got flag 3, and every line through one of them was woken.
-pub record Marked (sh : Shape) (first stride n j k : ℕ) (fs ms fs′ ms′ : List ℕ) : Type 0 where
+pub record Flagged (sh : Shape) (first stride n j k : ℕ) (fs ms fs′ ms′ : List ℕ) : Type 0 where
   pub flags : length fs′ ≡ length fs
   pub size : length ms′ ≡ length ms
   pub filled : (m : ℕ) → Hole first stride n j k m → getD fs′ m 0 ≡ 3

@@ -11,8 +11,9 @@ use Rattle.field.specs.Field.{reduction}
 use Rattle.field.proofs.Primitive.{primitive}
 use Rattle.fill.specs.Inner.Peel.{Neighbours, Filled, AllStop}
 use Rattle.fill.proofs.Lines.{line-places, neighbours-first, neighbours-fewer}
-use Rattle.fill.proofs.Reaching.{lines-filled, lines-stop, filled-le}
-use Rattle.fill.proofs.Awake.{lines-recovered, line-left}
+use Rattle.fill.proofs.Reaching.{filled-le}
+use Rattle.fill.proofs.Together.{lines-filled, lines-stop}
+use Rattle.fill.proofs.Visiting.{lines-recovered, line-left}
 use Rattle.fill.proofs.on_line.fill_lines.Statement.{statement}
 use Rattle.fill.proofs.on_line.fill_lines.Tie as tie
 
@@ -26,11 +27,11 @@ beside : (c : tie.After-alike) → Neighbours (c .before .before .before .before
 beside c = neighbours-fewer (c .before .before .before .before .before .before .before .before .pre .1 .0) (c .alike .ensures .0) (c .alike .ensures .1)
 
 filled :
-    (c : tie.After-mark) →
+    (c : tie.After-flag-holes) →
     Filled reduction (c .before .before .before .before .before .before .before .before .before .before .before .before .before .before .before .args .sh) (AllStop (c .before .before .before .before .before .before .before .before .before .before .before .before .before .before .before .args .line .first) (c .before .before .before .before .before .before .before .before .before .before .before .before .before .before .before .args .line .stride) (c .before .before .before .before .before .before .before .before .before .before .before .before .before .before .before .args .line .len) (c .before .before .before .before .before .before .before .alike .result))
-    (now (c .before .before .before .before .before .before .before .before .before .before .before .before .before .before .before .args .cube)) (now (c .before .before .before .before .before .before .before .before .before .before .before .before .before .before .before .args .flags)) (c .before .before .before .before .before .recover .last .0) (c .mark .last .0) (c .before .before .before .before .before .before .before .before .before .before .before .scan .result .count * c .before .before .before .before .before .before .before .alike .result)
+    (now (c .before .before .before .before .before .before .before .before .before .before .before .before .before .before .before .args .cube)) (now (c .before .before .before .before .before .before .before .before .before .before .before .before .before .before .before .args .flags)) (c .before .before .before .before .before .recover .last .0) (c .flag-holes .last .0) (c .before .before .before .before .before .before .before .before .before .before .before .scan .result .count * c .before .before .before .before .before .before .before .alike .result)
 filled c =
-    lines-filled _ _ _ _ _ _ (c .before .before .before .before .before .before .before .before .before .before .before .before .before .before .before .pre .0) _ _ _ _ _ _ _ (beside (c .before .before .before .before .before .before .before)) (c .before .before .before .before .before .before .before .alike .ensures .2) (c .mark .ensures) _ primitive _
+    lines-filled _ _ _ _ _ _ (c .before .before .before .before .before .before .before .before .before .before .before .before .before .before .before .pre .0) _ _ _ _ _ _ _ (beside (c .before .before .before .before .before .before .before)) (c .before .before .before .before .before .before .before .alike .ensures .2) (c .flag-holes .ensures) _ primitive _
     (λ p. omega (arith, c .before .before .before .before .before .before .before .before .before .before .before .before .before .before .slice-known .given p)) (c .before .before .before .before .before .recover .ensures)
 
 scan-requires : tie.Need-scan-requires
@@ -59,8 +60,8 @@ recover-requires c κs = (
   (beside (c .before), (c .before .before .before .before .before .scan .ensures .order (some (c .before .before .before)), c .before .before .before .before .before .scan .ensures .bound (some (c .before .before .before)))),
 )
 
-mark-requires : tie.Need-mark-requires
-mark-requires c κs = (
+flag-holes-requires : tie.Need-flag-holes-requires
+flag-holes-requires c κs = (
   (c .before .before .before .before .before .before .before .before .before .before .before .before .before .before .pre .0 .valid, c .before .before .before .before .before .before .before .before .before .before .before .before .before .before .pre .0 .flags, c .before .before .before .before .before .before .before .before .before .before .before .before .before .before .pre .1 .1),
   (beside (c .before .before .before .before .before .before), (c .before .before .before .before .before .before .before .before .before .before .scan .ensures .order (some (c .before .before .before .before .before .before .before .before)), c .before .before .before .before .before .before .before .before .before .before .scan .ensures .bound (some (c .before .before .before .before .before .before .before .before)))),
 )
@@ -78,7 +79,7 @@ returns-2 : tie.Need-returns-2
 returns-2 c = (
   (c .before .before .before .before .before .before .before .before .before .alike .ensures .0, c .before .before .before .before .before .before .before .before .before .alike .ensures .1),
   lines-recovered (filled (c .before .before))
-      (lines-stop _ _ _ _ _ _ (c .before .before .before .before .before .before .before .before .before .before .before .before .before .before .before .before .before .pre .0) _ _ _ _ _ _ _ (beside (c .before .before .before .before .before .before .before .before .before)) (c .before .before .before .before .before .before .before .before .before .alike .ensures .2) (c .before .before .mark .ensures)) (c .before .before .mark .ensures),
+      (lines-stop _ _ _ _ _ _ (c .before .before .before .before .before .before .before .before .before .before .before .before .before .before .before .before .before .pre .0) _ _ _ _ _ _ _ (beside (c .before .before .before .before .before .before .before .before .before)) (c .before .before .before .before .before .before .before .before .before .alike .ensures .2) (c .before .before .flag-holes .ensures)) (c .before .before .flag-holes .ensures),
 )
 
 pub fill-lines-spec : {M : Type 1} → statement M
@@ -90,7 +91,7 @@ fill-lines-spec =
     returns
     alike-requires
     recover-requires
-    mark-requires
+    flag-holes-requires
     mul-t22
     same-length-2
     same-length-3

@@ -5,7 +5,7 @@ use native.Mathlib.Omega.{arith}
 use denote.Ref.{now}
 use Rattle.field.specs.Field.{reduction}
 use Rattle.fill.specs.Inner.Peel.{Visited}
-use Rattle.fill.proofs.Awake.{visited-none, visited-next}
+use Rattle.fill.proofs.Visiting.{visited-none, visited-next}
 use Rattle.fill.proofs.Reaching.{reaches-sized, filled-le}
 use Rattle.fill.proofs.peel.eight.Statement.{statement}
 use Rattle.fill.proofs.peel.eight.Tie as tie

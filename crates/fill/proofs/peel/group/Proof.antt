@@ -2,7 +2,7 @@
 use native.Mathlib.Omega.{arith}
 use lib.ListN.{length-set}
 use Rattle.fill.specs.Inner.Peel.{markAt}
-use Rattle.fill.proofs.Awake.{group-calm}
+use Rattle.fill.proofs.Visiting.{group-calm}
 use borrow.Author.Needs.{needs}
 use Rattle.fill.proofs.peel.group.Statement.{statement}
 use Rattle.fill.proofs.peel.group.Tie as tie

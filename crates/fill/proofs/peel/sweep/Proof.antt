@@ -4,7 +4,7 @@ use native.Mathlib.Omega.{arith}
 use denote.Ref.{now}
 use Rattle.field.specs.Field.{reduction}
 use Rattle.fill.specs.Inner.Peel.{LinesStop, Filled, Calm}
-use Rattle.fill.proofs.Awake.{swept-none, swept-quiet, swept-group, swept-all}
+use Rattle.fill.proofs.Visiting.{swept-none, swept-quiet, swept-group, swept-all}
 use Rattle.fill.proofs.Reaching.{reaches-sized, filled-le}
 use Rattle.fill.proofs.peel.sweep.Statement.{statement}
 use Rattle.fill.proofs.peel.sweep.Tie as tie

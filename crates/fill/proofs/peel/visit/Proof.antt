@@ -7,7 +7,7 @@ use Rattle.shape.specs.Shapes.{lineOf}
 use Rattle.shape.proofs.Valid.{line-told, line-refused}
 use Rattle.shape.proofs.Geometry.{line-found, line-stride-pos}
 use Rattle.cube.proofs.AxisRuns.{lines-ended}
-use Rattle.fill.proofs.Awake.{neighbours-of, visited-past, visited-lines}
+use Rattle.fill.proofs.Visiting.{neighbours-of, visited-past, visited-lines}
 use Rattle.fill.proofs.peel.visit.Statement.{statement}
 use Rattle.fill.proofs.peel.visit.Tie as tie
 

@@ -1,9 +1,9 @@
--- `fill::on_line::mark_cell` gives a cell flag 3 and wakes the lines through it.
+-- `fill::on_line::flag_hole` gives a cell flag 3 and wakes the lines through it.
 use mathlib.Core.Path.{refl}
 use native.Mathlib.Omega.{arith}
 use borrow.Author.Needs.{needs}
-use Rattle.fill.proofs.on_line.mark_cell.Statement.{statement}
-use Rattle.fill.proofs.on_line.mark_cell.Tie as tie
+use Rattle.fill.proofs.on_line.flag_hole.Statement.{statement}
+use Rattle.fill.proofs.on_line.flag_hole.Tie as tie
 
 slice-write-flags : tie.Need-slice-write-flags
 slice-write-flags c = omega arith
@@ -17,5 +17,5 @@ same-length c = search needs
 returns : tie.Need-returns
 returns c = (refl, c .wake .ensures)
 
-pub mark-cell-spec : {M : Type 1} → statement M
-mark-cell-spec = tie.close (tie.spec slice-write-flags wake-requires same-length returns)
+pub flag-hole-spec : {M : Type 1} → statement M
+flag-hole-spec = tie.close (tie.spec slice-write-flags wake-requires same-length returns)
