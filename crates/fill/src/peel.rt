@@ -12,6 +12,7 @@ ghost use Rattle.field.specs.Field.{reduction};
 ghost use Rattle.fill.specs.Inner.Cells.{Sized};
 ghost use Rattle.fill.specs.Inner.Peel.{AxisStops, LinesStop, Filled, Peeled, Calm, Visited};
 
+// At first no line is quiet: each is visited once at least.
 pub(crate) fn peel(cube: &mut [u8], flags: &mut [u8], sh: Shape)
     requires { ⌜ Sized sh (now cube) (now flags) ⌝ }
     ensures { λ _. ⌜ Peeled reduction sh (now (cube .entry)) (now (flags .entry)) (now (cube .exit)) (now (flags .exit)) ⌝ }

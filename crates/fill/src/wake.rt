@@ -1,4 +1,5 @@
-// The marks of peeling: a byte for each eight lines of an axis, 1 while they are quiet. Quiet lines are passed over.
+// The marks of peeling: a byte for each group of eight lines of an axis, 1 while they are quiet, that is while no cell on them was filled since
+// their last visit. An axis has at most 65,025 lines, so that 8,192 marks an axis are enough.
 use shape::Shape;
 ghost use mathlib.Core.Path.{_≡_};
 ghost use Prim.Native.Nat.{_*_, _≤_, _<_};

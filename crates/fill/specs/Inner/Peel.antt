@@ -1,4 +1,4 @@
--- Peeling: what is found on a line, and how one cube and its flags lead to another.
+-- Peeling: what is found on a line, how one cube and its flags lead to another, and which lines need no visit.
 use mathlib.Core.Path.{_≡_}
 use mathlib.Core.Bool.{Bool, true, false}
 use mathlib.Core.List.{List}
@@ -87,7 +87,7 @@ pub record Peeled (r : ℕ) (sh : Shape) (xs fs xs′ fs′ : List ℕ) : Type 0
 unfoldable pub markAt : ℕ → ℕ → ℕ
 markAt axis g = (axis - 1) * 8192 + g
 
--- A line is quiet while its mark is 1, and may have changed since it was last visited where it is not.
+-- A line is quiet while its mark is 1: no cell on it was filled since its last visit.
 unfoldable pub Quiet : List ℕ → ℕ → ℕ → Type 0
 Quiet ms axis m = getD ms (markAt axis (m / 8)) 0 ≡ 1
 
