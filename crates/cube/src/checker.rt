@@ -61,5 +61,11 @@ fn lines_right(cube: &[u8], reduction: u8, sh: Shape, axis: usize, from: usize, 
         len: l.len,
         width: stride * w,
     };
-    rows::codewords(cube, reduction, run, stride * w * l.len, (to - from) / stride)
+    rows::codewords(
+        cube,
+        reduction,
+        run,
+        stride * w * l.len,
+        (to - from) / stride,
+    )
 }

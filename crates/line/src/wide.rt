@@ -54,14 +54,7 @@ fn ones(s: &[u8], s0: &mut [u8], s1: &mut [u8], reduction: u8, run: Run)
 }
 
 // A step by a place that the lines may be too short for.
-fn one_below(
-    s: &[u8],
-    s0: &mut [u8],
-    s1: &mut [u8],
-    reduction: u8,
-    run: Run,
-    left: usize,
-)
+fn one_below(s: &[u8], s0: &mut [u8], s1: &mut [u8], reduction: u8, run: Run, left: usize)
     requires { ⌜ (Inside run (length (now s))) × (Tails reduction run (min (left + 1) (run .len)) (now s) (now s0) (now s1)) ⌝ }
     ensures { λ r. ⌜ Tails reduction run (min left (run .len)) (now (s .entry)) (now (s0 .exit)) (now (s1 .exit)) ⌝ }
 {

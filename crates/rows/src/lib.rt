@@ -88,12 +88,12 @@ fn strip_of_rows(s: &[u8], reduction: u8, run: Run, gap: usize) -> bool
     ensures { λ r. ⌜ Decides (RowsRight reduction run gap 0 64 (now (s .entry))) r ⌝ }
 {
     let width = run.width;
-    let mut t = 0;
-    while t < width {
-        if !lanes(s, reduction, moved(run, t), gap) {
+    let mut byte = 0;
+    while byte < width {
+        if !lanes(s, reduction, moved(run, byte), gap) {
             return false;
         }
-        t += 1;
+        byte += 1;
     }
     true
 }

@@ -10,10 +10,10 @@ use Rattle.rows.proofs.strip_of_rows.Statement.{statement}
 use Rattle.rows.proofs.strip_of_rows.Tie as tie
 
 abbrev Inv-loop : tie.InvT-loop
-Inv-loop s reduction run gap width t₀ t = (t ≤ run .width) × ((k : ℕ) → k < t → LanesRight reduction (behind run k) gap s)
+Inv-loop s reduction run gap width byte₀ byte = (byte ≤ run .width) × ((k : ℕ) → k < byte → LanesRight reduction (behind run k) gap s)
 
 abbrev μ-loop : tie.MeasureT-loop
-μ-loop s reduction run gap width t₀ t = run .width - t
+μ-loop s reduction run gap width byte₀ byte = run .width - byte
 
 loop-holds : tie.Need-loop-holds Inv-loop μ-loop
 loop-holds c = (omega arith, λ k h. absurd (omega arith))
@@ -28,8 +28,8 @@ returns : tie.Need-returns Inv-loop μ-loop
 returns c =
     decides-no (λ h. decides-refuted (rw (c .before .before .moved .ensures) at (c .before .lanes .ensures)) (c .if1 .taken) (rows-lanes _ _ _ _ _ (c .before .before .before .loop-test .taken) h))
 
-add-t : tie.Need-add-t Inv-loop μ-loop
-add-t c = omega arith
+add-byte : tie.Need-add-byte Inv-loop μ-loop
+add-byte c = omega arith
 
 loop-less : tie.Need-loop-less Inv-loop μ-loop
 loop-less c = omega arith
@@ -53,7 +53,7 @@ strip-of-rows-spec =
     moved-requires
     lanes-requires
     returns
-    add-t
+    add-byte
     loop-less
     loop-again
     returns-2)

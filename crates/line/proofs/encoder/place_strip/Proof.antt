@@ -13,7 +13,7 @@ use Rattle.line.proofs.encoder.place_strip.Tie as tie
 abbrev Inv-loop : tie.InvT-loop
 Inv-loop «data» s₀ s0₀ s1₀ reduction from to left₀ s s0 s1 left =
     (left ≤ from .len)
-    × Between left (from .len) from to «data» s₀ s 
+    × Between left (from .len) from to «data» s₀ s
     × (length s0 ≡ 64)
     × (length s1 ≡ 64)
     × Tails reduction from left «data» s0 s1

@@ -20,12 +20,13 @@ returns-2 c =
     let room = a .len - a .at in
     let fits = le-div-iff-mul-le {k = a .size} {x = a .i + 1} {y = room} (c .before .pre) in
     let next = add-mul (a .i) 1 (a .size) in
-    let one = one-mul (a .size) in
-    (λ e. omega (arith, next, one, fits .0 (omega (arith, ltb-true (a .i) (room / a .size) e))),
-    λ e. elim (decLe ((a .i + 1) * a .size) room) [
-      | yes h ↦ absurd (omega (arith, fits .1 h, ltb-false (a .i) (room / a .size) e))
-      | no h ↦ omega (arith, next, one)
-    ])
+    let one = one-mul (a .size) in (
+      λ e. omega (arith, next, one, fits .0 (omega (arith, ltb-true (a .i) (room / a .size) e))),
+      λ e. elim (decLe ((a .i + 1) * a .size) room) [
+        | yes h ↦ absurd (omega (arith, fits .1 h, ltb-false (a .i) (room / a .size) e))
+        | no h ↦ omega (arith, next, one)
+      ],
+    )
 
 pub lies-in-spec : {M : Type 1} → statement M
 lies-in-spec = tie.close (tie.spec returns div-result returns-2)
