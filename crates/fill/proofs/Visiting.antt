@@ -1,7 +1,7 @@
 -- Lines visited: neighbouring lines at once, line after line, by groups, and a whole sweep, in which the lines of a quiet group need no visit.
 use mathlib.Core.Path.{_≡_, refl, sym, ap, subst, _∙_, ap₂}
 use mathlib.Core.List.{List}
-use mathlib.Core.Logic.{_≢_, _⊎_, ⊎-elim}
+use mathlib.Core.Logic.{_≢_, _⊎_, inl, inr, ⊎-elim}
 use Prim.Native.Nat.{ℕ, _+_, _-_, _*_, _%_, _≤_, _<_, _/_}
 use native.Mathlib.Nat.{div-add-mod', div-lt-iff-lt-mul}
 use native.Mathlib.Decide.{ℕ-discrete, decLt}
@@ -12,7 +12,7 @@ use Rattle.shape.specs.Shapes.{Valid, AxisLine, along, strideOf, lengthOf, line
 use Rattle.shape.proofs.Geometry.{axis-line-every, line-passed, line-is, outerOf, linesOf-outer, strideOf-pos}
 use Rattle.stopping.specs.Stopping.{onLine}
 use Rattle.shape.specs.Flags.{missing}
-use Rattle.fill.specs.Inner.Peel.{Stops, AxisStops, Filled, Neighbours, Hole, earlier, later, Flagged, AllStop, markAt, Quiet, LineStops, LinesStop, Calm, Awake, Woken, AllQuiet, Visited, LinesVisited}
+use Rattle.fill.specs.Inner.Peel.{Stops, AxisStops, Filled, Neighbours, Hole, earlier, later, Flagged, AllStop, markAt, QuietIn, Quiet, LineStops, LinesStop, Calm, Awake, Woken, AllQuiet, Visited, LinesVisited}
 use Rattle.fill.proofs.Marks.{both-marked, marked-length, marked-other, marked-last, marked-first}
 use lib.Arith.{digits-lt, digits-div, digits-mod}
 use lib.Seq.{getD-set-other}
@@ -199,6 +199,15 @@ module _ {r : ℕ} {sh : Shape} {axis : ℕ} where
             ];
       }
 
+  -- fewer lines
+  pub visited-fewer : {lo mid hi : ℕ} {xs fs ms ys gs ns : List ℕ} {a : ℕ} → hi ≤ mid → Visited r sh axis lo mid xs fs ms ys gs ns a → Visited r sh axis lo hi xs fs ms ys gs ns a
+  visited-fewer {lo} {mid} {hi} le v =
+      record {
+        filled = filled-weaken (LinesStop sh axis lo hi) (λ s. record { each = λ m p q l. s .each m p (omega arith) l }) (v .filled);
+        keeps = v .keeps;
+        after = λ m p q l h. v .after m p (omega arith) l h;
+      }
+
   -- a number that is no line's
   pub visited-past : (m : ℕ) (xs fs ms : List ℕ) → linesOf sh axis ≤ m → Visited r sh axis m (m + 1) xs fs ms xs fs ms 0
   visited-past m xs fs ms past =
@@ -225,25 +234,53 @@ mark-same : (a axis m g : ℕ) → 1 ≤ a → 1 ≤ axis → m < 65536 → g < 
 unfolding markAt
 mark-same a axis m g p q l b e = (omega arith, omega arith, omega arith)
 
--- Flagged first, then visited: a line of the group that is still quiet was left as one that stops.
-pub group-calm : {r : ℕ} {sh : Shape} {axis g : ℕ} {xs fs ms ys gs ns : List ℕ} {n : ℕ} → Valid sh → 1 ≤ axis → g < 8192 → Calm sh fs ms
-    → Visited r sh axis (g * 8) (g * 8 + 8) xs fs (set ms (markAt axis g) 1) ys gs ns n → Calm sh gs ns
-unfolding Quiet
-group-calm {r} {sh} {axis} {g} {xs} {fs} {ms} {ys} {gs} {ns} valid low b c v =
-    record {
-      size = v .keeps .size ∙ simp length-set (c .size);
-      stops = λ a m p q l h.
-          elim (ℕ-discrete (markAt a (m / 8)) (markAt axis g)) [
-            | yes e ↦
-                let (same, from, to) = mark-same a axis m g p low (omega (arith, lines-few sh a valid)) b e in
-                subst (λ (x : ℕ). m < linesOf sh x → Quiet ns x m → LineStops sh gs x m) (sym same) (v .after m from to) l h
-            | no ne ↦
-                v .keeps .stops a m p q l h
-                (c .stops a m p q l (sym (getD-set-other ms (markAt axis g) (markAt a (m / 8)) 1 0 ne) ∙ v .keeps .falls a m h))
-          ];
-    }
+-- a line of a group is awake by the group's mark, or it stops
+awake-or-stops : {sh : Shape} {axis : ℕ} {fs ms : List ℕ} (g : ℕ) → Calm sh fs ms → 1 ≤ axis → axis ≤ 3 → (m : ℕ) → g * 8 ≤ m → m < g * 8 + 8 → m < linesOf sh axis
+    → ((g * 8 + getD ms (markAt axis g) 0 / 8 ≤ m) × (m < g * 8 + (8 - getD ms (markAt axis g) 0 % 8))) ⊎ LineStops sh fs axis m
+unfolding Quiet QuietIn
+awake-or-stops {sh} {axis} {fs} {ms} g c p q m low high l =
+    let x = getD ms (markAt axis g) 0 in
+    let group : m / 8 ≡ g = omega arith in
+    let quiet : QuietIn x (m % 8) → LineStops sh fs axis m = λ h. c .stops axis m p q l (subst (λ (k : ℕ). QuietIn (getD ms (markAt axis k) 0) (m % 8)) (sym group) h) in
+    elim (decLt (m % 8) (x / 8)) [
+      | yes h ↦ inr (quiet (inl h))
+      | no a ↦ elim (decLt 7 (m % 8 + x % 8)) [ yes h ↦ inr (quiet (inr h)) | no b ↦ inl (omega arith, omega arith) ]
+    ]
+
+-- Marked first, then visited: a line of the group that is still quiet was left as one that stops, or was quiet already.
+module _ {r : ℕ} {sh : Shape} {axis g : ℕ} {xs fs ms ys gs ns : List ℕ} {n : ℕ} (valid : Valid sh) (low : 1 ≤ axis) (high : axis ≤ 3) (b : g < 8192) (c : Calm sh fs ms)
+    (v :
+    Visited r sh axis (g * 8 + getD ms (markAt axis g) 0 / 8) (g * 8 + (8 - getD ms (markAt axis g) 0 % 8)) xs fs (set ms (markAt axis g) 71) ys gs ns n) where
+  pub group-calm : Calm sh gs ns
+  unfolding Quiet
+  group-calm =
+      record {
+        size = v .keeps .size ∙ simp length-set (c .size);
+        stops = λ a m p q l h.
+            elim (ℕ-discrete (markAt a (m / 8)) (markAt axis g)) [
+              | yes e ↦
+                  let (same, from, to) = mark-same a axis m g p low (omega (arith, lines-few sh a valid)) b e in
+                  subst (λ (x : ℕ). m < linesOf sh x → Quiet ns x m → LineStops sh gs x m) (sym same) (here m from to) l h
+              | no ne ↦
+                  v .keeps .stops a m p q l h
+                  (c .stops a m p q l (subst (λ (x : ℕ). QuietIn x (m % 8)) (getD-set-other ms (markAt axis g) (markAt a (m / 8)) 71 0 ne) (v .keeps .falls a m h)))
+            ];
+      }
+    where
+      here : (m : ℕ) → g * 8 ≤ m → m < g * 8 + 8 → m < linesOf sh axis → Quiet ns axis m → LineStops sh gs axis m
+      here m from to l h =
+          ⊎-elim (λ (i, j). v .after m i j l h) (λ s. v .keeps .stops axis m low high l h s) (awake-or-stops g c low high m from to l)
+
+  pub group-filled : Filled r sh (LinesStop sh axis (g * 8) (g * 8 + 8)) xs fs ys gs n
+  group-filled =
+      filled-weaken (LinesStop sh axis (g * 8) (g * 8 + 8))
+      (λ s. record { each = λ m from to l. ⊎-elim (λ (i, j). s .each m i j l) (λ t. t) (awake-or-stops g c low high m from to l) }) (v .filled)
 
 -- ---- a sweep
+
+all-quiet : (ms : List ℕ) (axis m : ℕ) → getD ms (markAt axis (m / 8)) 0 ≡ 71 → Quiet ms axis m
+unfolding Quiet QuietIn
+all-quiet ms axis m e = rw e (inl (omega arith))
 
 module _ {r : ℕ} {sh : Shape} {axis : ℕ} {xs fs : List ℕ} where
   pub swept-none : Filled r sh (LinesStop sh axis 0 (0 * 8)) xs fs xs fs 0
@@ -264,7 +301,7 @@ module _ {r : ℕ} {sh : Shape} {axis : ℕ} {xs fs : List ℕ} where
               (record {
                 each = λ m low high l.
                     subst (λ (hs : List ℕ). LineStops sh hs axis m) (f .idle e)
-                    (c .stops axis m p q l (quiet .each (m / 8) (omega arith) (omega arith)));
+                    (c .stops axis m p q l (all-quiet ms axis m (quiet .each (m / 8) (omega arith) (omega arith))));
               });
         }
 

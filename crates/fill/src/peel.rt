@@ -66,7 +66,7 @@ fn sweep(
     }
 }
 
-// A group is marked before its lines are visited: a cell filled on one of them wakes the group again.
+// A group is marked quiet before its awake lines are visited: a cell filled on one of them wakes it again.
 fn group(
     cube: &mut [u8],
     flags: &mut [u8],
@@ -81,27 +81,32 @@ fn group(
     ensures { λ r. ⌜ Filled reduction sh (LinesStop sh axis (g * 8) (g * 8 + 8)) (now (cube .entry)) (now (flags .entry)) (now (cube .exit)) (now (flags .exit)) r ⌝ }
     ensures { λ _. ⌜ Calm sh (now (flags .exit)) (now (marks .exit)) ⌝ }
 {
-    marks[(axis - 1) * 8192 + g] = 1;
-    eight(cube, flags, marks, sh, axis, g * 8)
+    let at = (axis - 1) * 8192 + g;
+    let mark = wake::wide(marks[at]);
+    marks[at] = wake::QUIET;
+    let from = g * 8 + mark / 8;
+    let end = g * 8 + (8 - mark % 8);
+    visit_lines(cube, flags, marks, sh, axis, from, end)
 }
 
-// Visits eight lines, or those of them that the axis has.
-fn eight(
+// Visits the lines of an axis from one on and below another, as far as the axis has them.
+fn visit_lines(
     cube: &mut [u8],
     flags: &mut [u8],
     marks: &mut [u8; 24576],
     sh: Shape,
     axis: usize,
     from: usize,
+    end: usize,
 ) -> usize
     requires { ⌜ Sized sh (now cube) (now flags) ⌝ }
-    requires { ⌜ (1 ≤ axis) × (axis ≤ 3) × (from ≤ 65536) × (length (now marks) ≡ 24576) ⌝ }
-    ensures { λ r. ⌜ Visited reduction sh axis from (from + 8) (now (cube .entry)) (now (flags .entry)) (now (marks .entry)) (now (cube .exit)) (now (flags .exit)) (now (marks .exit)) r ⌝ }
+    requires { ⌜ (1 ≤ axis) × (axis ≤ 3) × (end ≤ 65544) × (length (now marks) ≡ 24576) ⌝ }
+    ensures { λ r. ⌜ Visited reduction sh axis from end (now (cube .entry)) (now (flags .entry)) (now (marks .entry)) (now (cube .exit)) (now (flags .exit)) (now (marks .exit)) r ⌝ }
 {
     let mut filled = 0;
     let mut m = from;
-    while m < from + 8 {
-        let step = visit(cube, flags, marks, sh, axis, m, from + 8);
+    while m < end {
+        let step = visit(cube, flags, marks, sh, axis, m, end);
         filled += step.filled;
         m += step.lines;
     }

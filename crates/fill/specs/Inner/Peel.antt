@@ -3,7 +3,7 @@ use mathlib.Core.Path.{_≡_}
 use mathlib.Core.Bool.{Bool, true, false}
 use mathlib.Core.List.{List}
 use mathlib.Core.Logic.{_≢_, _⊎_}
-use Prim.Native.Nat.{ℕ, _+_, _-_, _*_, _/_, _≤_, _<_}
+use Prim.Native.Nat.{ℕ, _+_, _-_, _*_, _/_, _%_, _≤_, _<_, min}
 use lib.ListN.{length, getD}
 use Rattle.shape.specs.declared.Shape.{Shape}
 use Rattle.shape.specs.Shapes.{cells, AxisLine, IsLine, strideOf, lengthOf, linesOf, firstOf}
@@ -87,9 +87,18 @@ pub record Peeled (r : ℕ) (sh : Shape) (xs fs xs′ fs′ : List ℕ) : Type 0
 unfoldable pub markAt : ℕ → ℕ → ℕ
 markAt axis g = (axis - 1) * 8192 + g
 
--- A line is quiet while its mark is 1: no cell on it was filled since its last visit.
+-- A mark stands for a stretch of its group's lines, which are awake: x / 8 lines before them are quiet, and x % 8 behind them. So 0 is a group that is
+-- awake as a whole, and in 71 every line is quiet.
+unfoldable pub QuietIn : ℕ → ℕ → Type 0
+QuietIn x k = (k < x / 8) ⊎ (7 < k + x % 8)
+
+-- the mark x with line k of the group in its stretch
+unfoldable pub stretched : ℕ → ℕ → ℕ
+stretched x k = min (x / 8) k * 8 + min (x % 8) (7 - k)
+
+-- A line is quiet while its mark says so: no cell on it was filled since its last visit.
 unfoldable pub Quiet : List ℕ → ℕ → ℕ → Type 0
-Quiet ms axis m = getD ms (markAt axis (m / 8)) 0 ≡ 1
+Quiet ms axis m = QuietIn (getD ms (markAt axis (m / 8)) 0) (m % 8)
 
 -- line m of an axis is not peeled
 unfoldable pub LineStops : Shape → List ℕ → ℕ → ℕ → Type 0
@@ -124,7 +133,7 @@ pub record Woken (sh : Shape) (n : ℕ) (ms ms′ : List ℕ) : Type 0 where
 
 -- From group lo on every group below hi is quiet.
 pub record AllQuiet (ms : List ℕ) (axis lo hi : ℕ) : Type 0 where
-  pub each : (g : ℕ) → lo ≤ g → g < hi → getD ms (markAt axis g) 0 ≡ 1
+  pub each : (g : ℕ) → lo ≤ g → g < hi → getD ms (markAt axis g) 0 ≡ 71
 
 -- A visit of the lines of an axis from lo on and below hi: those that are quiet afterwards are not to be peeled.
 pub record Visited (r : ℕ) (sh : Shape) (axis lo hi : ℕ) (xs fs ms xs′ fs′ ms′ : List ℕ) (count : ℕ) : Type 0 where

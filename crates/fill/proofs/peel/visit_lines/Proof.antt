@@ -1,42 +1,36 @@
--- `fill::peel::eight` visits eight lines of an axis, some of them side by side at once.
+-- `fill::peel::visit_lines` visits lines of an axis, some of them side by side at once.
 use mathlib.Core.Path.{_≡_, _∙_}
 use Prim.Native.Nat.{_+_, _-_, _≤_}
 use native.Mathlib.Omega.{arith}
 use denote.Ref.{now}
 use Rattle.field.specs.Field.{reduction}
 use Rattle.fill.specs.Inner.Peel.{Visited}
-use Rattle.fill.proofs.Visiting.{visited-none, visited-next}
+use Rattle.fill.proofs.Visiting.{visited-none, visited-next, visited-fewer}
 use Rattle.fill.proofs.Reaching.{reaches-sized, filled-le}
-use Rattle.fill.proofs.peel.eight.Statement.{statement}
-use Rattle.fill.proofs.peel.eight.Tie as tie
+use Rattle.fill.proofs.peel.visit_lines.Statement.{statement}
+use Rattle.fill.proofs.peel.visit_lines.Tie as tie
 
 abbrev Inv-loop : tie.InvT-loop
-Inv-loop cube₀ flags₀ marks₀ sh axis from filled₀ m₀ cube flags marks filled m =
-    (from ≤ m) × (m ≤ from + 8) × Visited reduction sh axis from m cube₀ flags₀ marks₀ cube flags marks filled
+Inv-loop cube₀ flags₀ marks₀ sh axis from end filled₀ m₀ cube flags marks filled m =
+    (from ≤ m) × Visited reduction sh axis from m cube₀ flags₀ marks₀ cube flags marks filled
 
 abbrev μ-loop : tie.MeasureT-loop
-μ-loop cube₀ flags₀ marks₀ sh axis from filled₀ m₀ cube flags marks filled m = from + 8 - m
+μ-loop cube₀ flags₀ marks₀ sh axis from end filled₀ m₀ cube flags marks filled m = end - m
 
 -- some lines more
 visited :
     (c : tie.After-visit Inv-loop μ-loop) →
     Visited reduction (c .before .before .before .before .before .before .before .before .args .sh) (c .before .before .before .before .before .before .before .before .args .axis) (c .before .before .before .before .before .before .before .before .args .from) (c .before .before .before .before .before .loop .m + c .visit .result .lines) (now (c .before .before .before .before .before .before .before .before .args .cube)) (now (c .before .before .before .before .before .before .before .before .args .flags))
     (now (c .before .before .before .before .before .before .before .before .args .marks)) (c .visit .last .0) (c .visit .last .1 .0) (c .visit .last .1 .1 .0) (c .before .before .before .before .before .loop .filled + c .visit .result .filled)
-visited c = visited-next (c .before .before .before .before .before .before .before .before .pre .1 .0) (c .before .before .before .before .before .before .before .before .pre .1 .1) (c .before .before .before .before .before .loop .inv .2) (c .visit .ensures .1)
+visited c = visited-next (c .before .before .before .before .before .before .before .before .pre .1 .0) (c .before .before .before .before .before .before .before .before .pre .1 .1) (c .before .before .before .before .before .loop .inv .1) (c .visit .ensures .1)
 
 loop-holds : tie.Need-loop-holds Inv-loop μ-loop
-loop-holds c = (omega arith, omega arith, visited-none _ _ _ _)
-
-add-loop : tie.Need-add-loop Inv-loop μ-loop
-add-loop c = omega arith
-
-add-visit : tie.Need-add-visit Inv-loop μ-loop
-add-visit c = omega arith
+loop-holds c = (omega arith, visited-none _ _ _ _)
 
 visit-requires : tie.Need-visit-requires Inv-loop μ-loop
 visit-requires c κs = (
-  reaches-sized (c .before .before .before .before .before .before .before .pre .0) (c .before .before .before .before .loop .inv .2 .filled .reaches),
-  (c .before .before .before .before .before .before .before .pre .1 .0, c .before .before .before .before .before .before .before .pre .1 .1, omega arith, c .before .before .before .before .loop .inv .2 .keeps .size ∙ c .before .before .before .before .before .before .before .pre .1 .3),
+  reaches-sized (c .before .before .before .before .before .before .before .pre .0) (c .before .before .before .before .loop .inv .1 .filled .reaches),
+  (c .before .before .before .before .before .before .before .pre .1 .0, c .before .before .before .before .before .before .before .pre .1 .1, omega arith, c .before .before .before .before .loop .inv .1 .keeps .size ∙ c .before .before .before .before .before .before .before .pre .1 .3),
 )
 
 add-filled : tie.Need-add-filled Inv-loop μ-loop
@@ -49,26 +43,24 @@ loop-less : tie.Need-loop-less Inv-loop μ-loop
 loop-less c = omega (arith, c .before .before .before .before .before .before .visit .ensures .0, c .before .before .before .before .before .before .before .before .before .before .before .loop .inv)
 
 loop-again : tie.Need-loop-again Inv-loop μ-loop
-loop-again c = (omega (arith, c .before .before .before .before .before .before .before .before .before .before .before .loop .inv), c .before .before .before .before .before .before .visit .ensures .0 .1, visited (c .before .before .before .before .before .before))
+loop-again c = (omega (arith, c .before .before .before .before .before .before .before .before .before .before .before .loop .inv), visited (c .before .before .before .before .before .before))
 
 same-length : tie.Need-same-length Inv-loop μ-loop
-same-length c = c .before .loop .inv .2 .filled .reaches .size
+same-length c = c .before .loop .inv .1 .filled .reaches .size
 
 same-length-2 : tie.Need-same-length-2 Inv-loop μ-loop
-same-length-2 c = c .before .loop .inv .2 .filled .reaches .flags
+same-length-2 c = c .before .loop .inv .1 .filled .reaches .flags
 
 returns : tie.Need-returns Inv-loop μ-loop
-returns c = let e : c .before .loop .m ≡ c .before .before .before .before .args .from + 8 = omega arith in rw e at (c .before .loop .inv .2)
+returns c = visited-fewer (omega arith) (c .before .loop .inv .1)
 
-pub eight-spec : {M : Type 1} → statement M
-eight-spec =
+pub visit-lines-spec : {M : Type 1} → statement M
+visit-lines-spec =
     tie.close
     (tie.spec
     Inv-loop
     μ-loop
     loop-holds
-    add-loop
-    add-visit
     visit-requires
     add-filled
     add-m
