@@ -8,7 +8,7 @@ use native.Mathlib.Numerals.{add-one}
 use native.Mathlib.Decide.{ℕ-discrete}
 use native.Mathlib.Omega.{arith}
 use Rattle.stopping.specs.Stopping.{number, onLine}
-use Rattle.stopping.proofs.Number.{number-nil, number-in, number-out, number-zero}
+use Rattle.stopping.proofs.Number.{number-nil, number-in, number-out, number-inc, number-zero}
 use Rattle.fill.specs.Inner.Peel.{Scanned, Alike}
 
 module _ (M : ℕ → Bool) (start stride : ℕ) where
@@ -28,11 +28,14 @@ module _ (M : ℕ → Bool) (start stride : ℕ) where
   unfolding onLine
   line-empty n e = number-zero (λ i. M (start + stride * i)) n e
 
+  line-longer : (n len : ℕ) → n ≤ len → onLine M start stride n ≤ onLine M start stride len
+  unfolding onLine
+  line-longer n len le = number-inc (λ i. M (start + stride * i)) n len le
+
   pub scanned-none : Scanned M start stride 0 0 0 0
   scanned-none =
       record {
-        number = sym line-nil;
-        few = omega arith;
+        number = omega (arith, line-nil);
         order = λ l. omega arith;
         bound = λ l. omega arith;
         one = λ e. refl;
@@ -46,8 +49,7 @@ module _ (M : ℕ → Bool) (start stride : ℕ) where
       → Scanned M start stride (n + 1) count first last
   scanned-skip n count first last s e =
       record {
-        number = s .number ∙ sym (line-out n e);
-        few = omega (arith, s .few);
+        number = omega (arith, s .number, line-out n e);
         order = s .order;
         bound = λ l. omega (arith, s .bound l);
         one = s .one;
@@ -63,24 +65,22 @@ module _ (M : ℕ → Bool) (start stride : ℕ) where
       → Scanned M start stride (n + 1) (count + 1) n n
   scanned-first n count first last s e z =
       record {
-        number = ap (λ (k : ℕ). k + 1) (s .number) ∙ sym (line-in n e);
-        few = omega (arith, s .few);
+        number = omega (arith, s .number, line-in n e);
         order = λ l. omega arith;
         bound = λ l. omega arith;
         one = λ f. refl;
         two = λ f. absurd (omega arith);
         at-first = λ l. e;
         at-last = λ l. e;
-        others = λ l i m a b. line-empty n (sym (s .number) ∙ z) i (omega arith);
+        others = λ l i m a b. line-empty n (omega (arith, s .number)) i (omega arith);
       }
 
-  pub scanned-next : (n count first last : ℕ) → Scanned M start stride n count first last → M (start + stride * n) ≡ true → count ≢ 0
+  pub scanned-next : (n count first last : ℕ) → Scanned M start stride n count first last → M (start + stride * n) ≡ true → count ≢ 0 → count < 3
       → Scanned M start stride (n + 1) (count + 1) first n
-  scanned-next n count first last s e nz =
+  scanned-next n count first last s e nz lt =
       let some : 1 ≤ count = omega arith in
       record {
-        number = ap (λ (k : ℕ). k + 1) (s .number) ∙ sym (line-in n e);
-        few = omega (arith, s .few);
+        number = omega (arith, s .number, line-in n e);
         order = λ l. omega (arith, s .order some, s .bound some);
         bound = λ l. omega arith;
         one = λ f. absurd (omega arith);
@@ -90,6 +90,20 @@ module _ (M : ℕ → Bool) (start stride : ℕ) where
         others = λ l i m a b.
             let same : first ≡ last = s .one (omega arith) in
             s .others (omega arith) i (omega arith) a (λ g. a (g ∙ sym same));
+      }
+
+  -- with three cells found the rest of the line does not matter
+  pub scanned-three : (n len count first last : ℕ) → Scanned M start stride n count first last → 3 ≤ count → n ≤ len → Scanned M start stride len count first last
+  scanned-three n len count first last s three le =
+      record {
+        number = omega (arith, s .number, line-longer n len le);
+        order = s .order;
+        bound = λ l. omega (arith, s .bound l);
+        one = s .one;
+        two = s .two;
+        at-first = s .at-first;
+        at-last = s .at-last;
+        others = λ l. absurd (omega arith);
       }
 
 -- ---- neighbouring lines with the same cells of a set

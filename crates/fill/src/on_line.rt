@@ -14,7 +14,7 @@ ghost use Rattle.line.proofs.Runs.{Solved};
 ghost use Rattle.fill.specs.Inner.Cells.{Sized};
 ghost use Rattle.fill.specs.Inner.Peel.{Places, Scanned, Woken, Neighbours, Alike, Flagged, LinesVisited, runOf};
 
-// The missing cells of a line: how many, and the first and the last place.
+// The missing cells of a line: how many, at most three, and the first and the last place looked at that misses one.
 pub(crate) struct MissingPlaces {
     pub count: usize,
     pub first: usize,
@@ -137,6 +137,7 @@ fn flag_hole(flags: &mut [u8], marks: &mut [u8; 24576], sh: Shape, n: usize)
     wake::wake(marks, sh, n);
 }
 
+// Looks at a line up to its third missing cell: with three it is not filled, and need not be read on.
 pub(crate) fn scan(flags: &[u8], line: Line) -> MissingPlaces
     requires { ⌜ Places (now flags) (line .first) (line .stride) (line .len) ⌝ }
     ensures { λ r. ⌜ Scanned (missing (now (flags .entry))) (line .first) (line .stride) (line .len) (r .count) (r .first) (r .last) ⌝ }
@@ -150,7 +151,7 @@ pub(crate) fn scan(flags: &[u8], line: Line) -> MissingPlaces
         last: 0,
     };
     let mut i = 0;
-    while i < len {
+    while i < len && e.count < 3 {
         if flags[first + stride * i] == 1 {
             if e.count == 0 {
                 e.first = i;

@@ -22,10 +22,9 @@ pub record Places (fs : List ℕ) (first stride len : ℕ) : Type 0 where
   pub few : len ≤ 255
   pub within : (i : ℕ) → i < len → first + stride * i < length fs
 
--- The cells of M on a line: how many, and where they are one or two, which. Then `first` and `last` are the places, the same for one.
+-- The cells of M on a line: how many, at most three, and where they are one or two, which. Then `first` and `last` are the places, the same for one.
 pub record Scanned (M : ℕ → Bool) (start stride len count first last : ℕ) : Type 0 where
-  pub number : count ≡ onLine M start stride len
-  pub few : count ≤ len
+  pub number : count ≡ min 3 (onLine M start stride len)
   pub order : 1 ≤ count → first ≤ last
   pub bound : 1 ≤ count → last < len
   pub one : count ≡ 1 → first ≡ last

@@ -1,6 +1,5 @@
 -- `fill::on_line::fill_lines` fills a line that misses one or two cells with its neighbours that miss the same; a line with none or more is
 -- left.
-use mathlib.Core.Path.{sym, _∙_}
 use mathlib.Core.Logic.{inl, inr, ⊎-elim}
 use Prim.Native.Nat.{_*_, _≤_}
 use native.Mathlib.Omega.{arith}
@@ -44,7 +43,7 @@ returns : tie.Need-returns
 returns c = (
   (omega arith, c .before .before .before .before .before .pre .1 .0 .some),
   line-left _ _ _ _ _ _
-      (⊎-elim (λ w. inl (sym (c .before .scan .ensures .number) ∙ w .taken))
+      (⊎-elim (λ w. inl (omega (arith, c .before .scan .ensures .number, w .taken)))
       (λ w. inr (omega (arith, c .before .scan .ensures .number, ltb-true 2 (c .before .scan .result .count) (w .1 .taken)))) (c .if1 .came)),
 )
 
