@@ -1,6 +1,6 @@
 -- The cube and flags as packets are placed: none yet, one more whose cell is new, one more that agrees with an earlier copy, one that differs.
 use mathlib.Core.Path.{_≡_, refl, sym, ap, subst, _∙_}
-use mathlib.Core.Bool.{Bool, true, false, cond, false≢true}
+use mathlib.Core.Bool.{Bool, true, false, cond, true≢false, false≢true}
 use mathlib.Core.List.{List}
 use mathlib.Core.Logic.{_≢_}
 use Prim.Native.Nat.{ℕ, zero, suc, _+_, _*_, _≤_, _<_}
@@ -11,7 +11,9 @@ use lib.ListN.{length, getD, set, replicate, length-set, length-replicate, getD-
 use lib.Seq.{getD-set-same, getD-set-other}
 use borrow.Author.Tests.{eq-eqb, ne-eqb}
 use Rattle.span.proofs.Stretches.{stretch-end}
-use Rattle.span.specs.Span.{Copied, SameBytes}
+use Rattle.span.proofs.Differing.{differing-byte}
+use Rattle.span.specs.Decision.{Decides}
+use Rattle.span.specs.Span.{Copied, SameBytes, BothInside}
 use Rattle.shape.specs.declared.Shape.{Shape}
 use Rattle.shape.specs.Shapes.{cells}
 use Rattle.data.specs.Data.{layer}
@@ -19,11 +21,9 @@ use Rattle.stopping.specs.Stopping.{number}
 use Rattle.stopping.proofs.Number.{number-nil, number-le}
 use Rattle.pack.specs.Packets.{Source}
 use Rattle.receiver.specs.Placing.{Conflicting, among, repeatsOf, flagAt, Placed}
-use Rattle.receiver.specs.declared.placing.Arrival.{Arrival}
-use Rattle.receiver.specs.declared.placing.Arrival.the-variants.{Agrees, Other}
 use Rattle.receiver.specs.declared.placing.Placing.{Placing}
 use Rattle.receiver.specs.declared.placing.Placing.the-variants.{Repeats, Differs}
-use Rattle.receiver.specs.Inner.Placing.{Arrived, agrees, other, Placement}
+use Rattle.receiver.specs.Inner.Placing.{First, Compared, Placement}
 use Rattle.receiver.proofs.Bytes.{clash}
 
 -- ---- cells that the first packets name
@@ -123,8 +123,11 @@ pub repeats-le : (s : Source) (n : ℕ) → repeatsOf s n ≤ n
 unfolding repeatsOf
 repeats-le s n = number-le _ n
 
-pub repeats-next : (s : Source) (n r k : ℕ) → r ≡ repeatsOf s n → k ≡ cond (among s n (s .place n)) 1 0 → r + k ≡ repeatsOf s (n + 1)
-repeats-next s n r k a b = omega (arith, repeats-more s n)
+pub repeats-new : (s : Source) (n r : ℕ) → r ≡ repeatsOf s n → among s n (s .place n) ≡ false → r ≡ repeatsOf s (n + 1)
+repeats-new s n r a b = omega (arith, rw b at (repeats-more s n))
+
+pub repeats-again : (s : Source) (n r : ℕ) → r ≡ repeatsOf s n → among s n (s .place n) ≡ true → r + 1 ≡ repeatsOf s (n + 1)
+repeats-again s n r a b = omega (arith, rw b at (repeats-more s n))
 
 pub none-more : (sh : Shape) (s : Source) (n : ℕ) → ((j : ℕ) → j < n → Conflicting sh s j → ⊥) → (Conflicting sh s n → ⊥)
     → (j : ℕ) → j < n + 1 → Conflicting sh s j → ⊥
@@ -146,89 +149,112 @@ kept-bytes sh src xs ys from m k w h ne l =
       | no more ↦ let above : m < k = omega arith in h .kept .above (k * sh .w + w) (omega (arith, stretch-end m k (sh .w) above))
     ]
 
-module _ (sh : Shape) (s : Source) (i : ℕ) (xs fs : List ℕ) (placed : Placed sh s i xs fs) (m : ℕ) (here : m ≡ s .place i) (inside : m < cells sh)
-    (src : List ℕ) (from : ℕ) (read : (w : ℕ) → w < sh .w → getD src (from + w) 0 ≡ s .byte i w) where
-  flag-here : getD fs m 0 ≡ flagAt s i m
-  flag-here = placed .flags m inside
+-- the bytes of a cell lie inside the cube
+pub cell-inside : (sh : Shape) (m bytes : ℕ) → m < cells sh → bytes ≡ sh .w * cells sh → m * sh .w + sh .w ≤ bytes
+cell-inside sh m bytes l size = omega (arith, stretch-end m (cells sh) (sh .w) l)
 
-  new : getD fs m 0 ≡ 1 → among s i m ≡ false
+-- no earlier packet names a cell that is new
+apart : (s : Source) (i : ℕ) → among s i (s .place i) ≡ false → (k : ℕ) → k < i → s .place k ≢ s .place i
+apart s i new k less same = false≢true (sym new ∙ ap (among s i) (sym same) ∙ earlier-among s i k less)
+
+module _ (sh : Shape) (s : Source) (i : ℕ) (xs fs : List ℕ) (placed : Placed sh s i xs fs) (m : ℕ) (here : m ≡ s .place i) (inside : m < cells sh) where
+  flag-here : getD fs m 0 ≡ flagAt s i (s .place i)
+  flag-here = placed .flags m inside ∙ ap (flagAt s i) here
+
+  new : getD fs m 0 ≡ 1 → among s i (s .place i) ≡ false
   unfolding flagAt
-  new one = one-new (among s i m) (sym flag-here ∙ one)
+  new one = one-new (among s i (s .place i)) (sym flag-here ∙ one)
 
-  came : (getD fs m 0 ≡ 1 → ⊥) → among s i m ≡ true
+  came : (getD fs m 0 ≡ 1 → ⊥) → among s i (s .place i) ≡ true
   unfolding flagAt
-  came known = not-one-came (among s i m) (λ e. known (flag-here ∙ e))
-
-  -- no earlier packet names a cell that is new
-  apart : getD fs m 0 ≡ 1 → (k : ℕ) → k < i → s .place k ≢ m
-  apart one k less same = false≢true (sym (new one) ∙ ap (among s i) (sym same) ∙ earlier-among s i k less)
+  came known = not-one-came (among s i (s .place i)) (λ e. known (flag-here ∙ e))
 
   -- a cell that is new
-  first-placed : (ys : List ℕ) → getD fs m 0 ≡ 1 → Copied src from xs (m * sh .w) (sh .w) ys → Placed sh s (i + 1) ys (set fs m 0)
+  pub placed-first : (src ys : List ℕ) (from : ℕ) → ((w : ℕ) → w < sh .w → getD src (from + w) 0 ≡ s .byte i w) → getD fs m 0 ≡ 1
+      → Copied src from xs (m * sh .w) (sh .w) ys → First sh s i xs fs ys (set fs m 0) true
   unfolding layer
-  first-placed ys one copy =
+  placed-first src ys from read one copy =
       record {
-        cube-size = copy .kept .size ∙ placed .cube-size;
-        flags-size = length-set fs m 0 ∙ placed .flags-size;
-        flags = λ k l. elim (ℕ-discrete k m) [
-          | yes e ↦ rw e (getD-set-same fs m 0 0 (rw (placed .flags-size) inside) ∙ sym (flag-known s (i + 1) m (rw here (among-same s i))))
-          | no ne ↦ getD-set-other fs m k 0 0 ne ∙ placed .flags k l ∙ flag-next s i k (λ e. ne (e ∙ sym here))
-        ];
+        new = λ e. (
+          new one,
+          record {
+            cube-size = copy .kept .size ∙ placed .cube-size;
+            flags-size = length-set fs m 0 ∙ placed .flags-size;
+            flags = λ k l. elim (ℕ-discrete k m) [
+              | yes e ↦ rw e (getD-set-same fs m 0 0 (rw (placed .flags-size) inside) ∙ sym (flag-known s (i + 1) m (rw here (among-same s i))))
+              | no ne ↦ getD-set-other fs m k 0 0 ne ∙ placed .flags k l ∙ flag-next s i k (λ e. ne (e ∙ sym here))
+            ];
+            bytes = λ k l w h. elim (ℕ-discrete k i) [
+              | yes e ↦ rw (e, ← here) (copy .copied w h ∙ read w h)
+              | no ne ↦ let less : k < i = omega arith in
+                  kept-bytes sh src xs ys from m (s .place k) w copy (λ same. apart s i (new one) k less (same ∙ here)) h ∙ placed .bytes k less w h
+            ];
+          },
+        );
+        known = λ e. absurd (true≢false e);
+      }
+
+  -- a cell that is known
+  pub placed-known : (getD fs m 0 ≡ 1 → ⊥) → First sh s i xs fs xs fs false
+  placed-known known = record { new = λ e. absurd (false≢true e); known = λ e. (came known, refl, refl) }
+
+-- the bytes compared are the packet's and its cell's
+pub compared : (sh : Shape) (s : Source) (i : ℕ) (src xs : List ℕ) (from m : ℕ) (answer : Bool) → m ≡ s .place i
+    → ((w : ℕ) → w < sh .w → getD src (from + w) 0 ≡ s .byte i w) → Decides (SameBytes src from xs (m * sh .w) (sh .w)) answer
+    → BothInside src from xs (m * sh .w) (sh .w) → Compared sh s i xs answer
+unfolding layer
+compared sh s i src xs from m answer here read d inside =
+    record {
+      same = λ e w h. rw (← here) (sym (d .yes-then e .bytes w h) ∙ read w h);
+      other = λ e. let (w, h, ne) = differing-byte src xs from (m * sh .w) (sh .w) answer d inside e in
+          (w, h, λ equal. ne (read w h ∙ sym equal ∙ ap (λ (n : ℕ). getD xs (n * sh .w + w) 0) (sym here)));
+    }
+
+-- ---- packet i, by what `place_first` and `agrees` promise
+
+-- the first of its cell differs from none
+pub first-agrees : (sh : Shape) (s : Source) (i : ℕ) → among s i (s .place i) ≡ false → Conflicting sh s i → ⊥
+first-agrees sh s i new c = apart s i new (c .earlier) (c .before) (c .same)
+
+-- what was placed before a copy still is
+pub copy-placed : (sh : Shape) (s : Source) (i : ℕ) (xs fs ys gs : List ℕ) (answer : Bool) → First sh s i xs fs ys gs answer → answer ≡ false
+    → Placed sh s i xs fs → Placed sh s i ys gs
+copy-placed sh s i xs fs ys gs answer f e placed = let (came, a, b) = f .known e in rw (a, b) placed
+
+module _ (sh : Shape) (s : Source) (i : ℕ) (xs fs : List ℕ) (placed : Placed sh s i xs fs) where
+  -- what stands in a packet's cell is what an earlier packet brought
+  earlier-byte : (j w : ℕ) → j < i → s .place j ≡ s .place i → w < sh .w → layer sh xs w (s .place i) ≡ s .byte j w
+  earlier-byte j w l same h = rw (← same) (placed .bytes j l w h)
+
+  -- a copy that agrees with what stands there
+  pub placed-again : among s i (s .place i) ≡ true → ((w : ℕ) → w < sh .w → layer sh xs w (s .place i) ≡ s .byte i w) → Placed sh s (i + 1) xs fs
+  placed-again came same =
+      record {
+        cube-size = placed .cube-size;
+        flags-size = placed .flags-size;
+        flags = λ k l. placed .flags k l ∙ flag-again s i k came;
         bytes = λ k l w h. elim (ℕ-discrete k i) [
-          | yes e ↦ rw (e, ← here) (copy .copied w h ∙ read w h)
-          | no ne ↦ let less : k < i = omega arith in
-              kept-bytes sh src xs ys from m (s .place k) w copy (apart one k less) h ∙ placed .bytes k less w h
+          | yes e ↦ rw e (same w h)
+          | no ne ↦ placed .bytes k (omega arith) w h
         ];
       }
 
-  pub placed-first : (ys : List ℕ) → getD fs m 0 ≡ 1 → Copied src from xs (m * sh .w) (sh .w) ys
-      → Arrived sh s i xs fs ys (set fs m 0) (Agrees 0)
-  placed-first ys one copy =
-      subst (λ (k : ℕ). Arrived sh s i xs fs ys (set fs m 0) (Agrees k)) (ap (λ (b : Bool). cond b 1 0) fresh)
-      (agrees (first-placed ys one copy) (λ c. apart one (c .earlier) (c .before) (c .same ∙ sym here)))
-    where
-      fresh : among s i (s .place i) ≡ false
-      fresh = ap (among s i) (sym here) ∙ new one
-
-  -- a copy that agrees with an earlier one
-  pub placed-again : (getD fs m 0 ≡ 1 → ⊥) → SameBytes src from xs (m * sh .w) (sh .w) → Arrived sh s i xs fs xs fs (Agrees 1)
-  unfolding layer
-  placed-again known same =
-      subst (λ (k : ℕ). Arrived sh s i xs fs xs fs (Agrees k)) (ap (λ (b : Bool). cond b 1 0) again)
-      (agrees
-      (record {
-        cube-size = placed .cube-size;
-        flags-size = placed .flags-size;
-        flags = λ k l. placed .flags k l ∙ flag-again s i k (rw here at (came known));
-        bytes = λ k l w h. elim (ℕ-discrete k i) [
-          | yes e ↦ rw (e, ← here) (sym (same .bytes w h) ∙ read w h)
-          | no ne ↦ placed .bytes k (omega arith) w h
-        ];
-      })
-      (λ c. c .other
-      (sym (placed .bytes (c .earlier) (c .before) (c .layer) (c .inside))
-      ∙ ap (λ (n : ℕ). getD xs (n * sh .w + c .layer) 0) (c .same ∙ sym here)
-      ∙ sym (same .bytes (c .layer) (c .inside)) ∙ read (c .layer) (c .inside))))
-    where
-      again : among s i (s .place i) ≡ true
-      again = ap (among s i) (sym here) ∙ came known
+  pub again-agrees : ((w : ℕ) → w < sh .w → layer sh xs w (s .place i) ≡ s .byte i w) → Conflicting sh s i → ⊥
+  again-agrees same c =
+      c .other (sym (earlier-byte (c .earlier) (c .layer) (c .before) (c .same) (c .inside)) ∙ same (c .layer) (c .inside))
 
   -- a copy that differs
-  pub placed-other : (getD fs m 0 ≡ 1 → ⊥) → (w : ℕ) × (w < sh .w) × (getD src (from + w) 0 ≢ getD xs (m * sh .w + w) 0)
-      → Arrived sh s i xs fs xs fs Other
-  unfolding layer
-  placed-other known (w, h, ne) =
-      let (j, l, same) = among-earlier s i m (came known) in
-      other
-      (record {
+  pub again-differs : among s i (s .place i) ≡ true → (w : ℕ) × (w < sh .w) × (layer sh xs w (s .place i) ≢ s .byte i w) → Conflicting sh s i
+  again-differs came (w, h, ne) =
+      let (j, l, same) = among-earlier s i (s .place i) came in
+      record {
         earlier = j;
         before = l;
-        same = same ∙ here;
+        same = same;
         layer = w;
         inside = h;
-        other = λ equal. ne (read w h ∙ sym equal ∙ sym (placed .bytes j l w h) ∙ ap (λ (n : ℕ). getD xs (n * sh .w + w) 0) same);
-      })
-      refl refl
+        other = λ equal. ne (earlier-byte j w l same h ∙ equal);
+      }
 
 -- ---- all packets
 
@@ -257,14 +283,3 @@ pub placement-other : (sh : Shape) (s : Source) (n k : ℕ) (xs fs ys gs : List 
 placement-other sh s n k xs fs ys gs r h e =
     let (l, c, none) = placement-differs sh s n k xs fs r h e in
     rw e (Placement.differs k l c none)
-
--- what an arrival tells
-pub arrived-agrees : (sh : Shape) (s : Source) (i : ℕ) (xs fs ys gs : List ℕ) (r : Arrival) (k : ℕ) → Arrived sh s i xs fs ys gs r → r ≡ Agrees k
-    → Placed sh s (i + 1) ys gs × (Conflicting sh s i → ⊥) × (k ≡ cond (among s i (s .place i)) 1 0)
-arrived-agrees sh s i xs fs ys gs _ k (agrees placed none) e = (placed, none, cc)
-arrived-agrees sh s i xs fs ys gs _ k (other c a b) e = clash cc
-
-pub arrived-differs : (sh : Shape) (s : Source) (i : ℕ) (xs fs ys gs : List ℕ) (r : Arrival) → Arrived sh s i xs fs ys gs r → r ≡ Other
-    → Conflicting sh s i × (length ys ≡ length xs) × (length gs ≡ length fs)
-arrived-differs sh s i xs fs ys gs _ (agrees placed none) e = clash cc
-arrived-differs sh s i xs fs ys gs _ (other c a b) e = (c, a, b)

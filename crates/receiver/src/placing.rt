@@ -10,18 +10,12 @@ ghost use Rattle.shape.specs.Shapes.{Valid, cells};
 ghost use Rattle.pack.specs.Packets.{source, Named};
 ghost use Rattle.receiver.specs.declared.placing.Placing.the-variants.{Differs};
 ghost use Rattle.receiver.specs.Placing.{Placed};
-ghost use Rattle.receiver.specs.Inner.Placing.{Arrived, Placement};
+ghost use Rattle.receiver.specs.Inner.Placing.{First, Compared, Placement};
 
 // The repeats, or the index of the first packet that differs from an earlier copy.
 pub(crate) enum Placing {
     Repeats(usize),
     Differs(usize),
-}
-
-// One packet: the repeats it adds, 0 or 1, or that it differs from an earlier copy.
-enum Arrival {
-    Agrees(usize),
-    Other,
 }
 
 // Places all packets. A packet that differs leaves the cube all 00h and the flags all 1.
@@ -53,42 +47,56 @@ fn place_packets(air: &[u8], cube: &mut [u8], flags: &mut [u8], h: Header, s: Se
     let mut repeats = 0;
     let mut i = 0;
     while i < n {
-        let arrival = place_packet(air, cube, flags, h, s, i);
-        let Arrival::Agrees(more) = arrival else {
-            return Placing::Differs(i);
-        };
-        repeats += more;
+        if !place_first(air, cube, flags, h, s, i) {
+            if !agrees(air, cube, h, s, i) {
+                return Placing::Differs(i);
+            }
+            repeats += 1;
+        }
         i += 1;
     }
     Placing::Repeats(repeats)
 }
 
-fn place_packet(
+// Places a packet whose cell is still missing. False, and nothing changed, where a copy came before. Most packets are the first of their
+// cell: for them this is all that is done.
+fn place_first(
     air: &[u8],
     cube: &mut [u8],
     flags: &mut [u8],
     h: Header,
     s: Section,
     i: usize,
-) -> Arrival
+) -> bool
     requires { ⌜ Valid (h .shape) × Named (now air) h s i × Placed (h .shape) (source (now air) h s) i (now cube) (now flags) ⌝ }
-    ensures { λ r. ⌜ Arrived (h .shape) (source (now (air .entry)) h s) i (now (cube .entry)) (now (flags .entry)) (now (cube .exit)) (now (flags .exit)) r ⌝ }
+    ensures { λ r. ⌜ First (h .shape) (source (now (air .entry)) h s) i (now (cube .entry)) (now (flags .entry)) (now (cube .exit)) (now (flags .exit)) r ⌝ }
 {
     let sh = h.shape;
     let w = sh.w;
     let read = pack::packet(air, h, s, i);
     let PacketRead::Names(m, from) = read else {
-        return Arrival::Other;
+        return false;
     };
-    if flags[m] == 1 {
-        put(air, cube, from, m * w, w);
-        flags[m] = 0;
-        return Arrival::Agrees(0);
+    if flags[m] != 1 {
+        return false;
     }
-    if span::same(air, cube, from, m * w, w) {
-        return Arrival::Agrees(1);
-    }
-    Arrival::Other
+    put(air, cube, from, m * w, w);
+    flags[m] = 0;
+    true
+}
+
+// Whether a packet has the bytes that stand in its cell. It reads the packet again, which only copies pay for.
+fn agrees(air: &[u8], cube: &[u8], h: Header, s: Section, i: usize) -> bool
+    requires { ⌜ Valid (h .shape) × Named (now air) h s i × (length (now cube) ≡ h .shape .w * cells (h .shape)) ⌝ }
+    ensures { λ r. ⌜ Compared (h .shape) (source (now (air .entry)) h s) i (now (cube .entry)) r ⌝ }
+{
+    let sh = h.shape;
+    let w = sh.w;
+    let read = pack::packet(air, h, s, i);
+    let PacketRead::Names(m, from) = read else {
+        return false;
+    };
+    span::same(air, cube, from, m * w, w)
 }
 
 // Copies a packet's bytes to its cell. A single byte, where the copy costs more than the byte, is taken by itself.

@@ -1,15 +1,13 @@
--- `place_packet` makes a missing cell known, or compares a copy with what came before.
+-- `place_first` makes a missing cell known, and leaves all as it is where the cell is known.
 use native.Mathlib.Omega.{arith}
 use Prim.Native.Nat.{ℕ, _+_, _*_, _≤_, _<_}
 use lib.ListN.{length}
-use Rattle.span.proofs.Differing.{differing-byte}
-use Rattle.span.proofs.Stretches.{stretch-end}
 use Rattle.shape.specs.Shapes.{cells}
 use Rattle.pack.proofs.Naming.{Told, packet-told, packet-absent, place-lt}
-use Rattle.receiver.proofs.Arrivals.{placed-first, placed-again, placed-other}
+use Rattle.receiver.proofs.Arrivals.{cell-inside, placed-first, placed-known}
 use borrow.Author.Needs.{needs}
-use Rattle.receiver.proofs.placing.place_packet.Statement.{statement}
-use Rattle.receiver.proofs.placing.place_packet.Tie as tie
+use Rattle.receiver.proofs.placing.place_first.Statement.{statement}
+use Rattle.receiver.proofs.placing.place_first.Tie as tie
 
 abbrev start : tie.After-read → tie.Start
 start c = c .before .before .before .before .before .before .before
@@ -30,10 +28,7 @@ below c = let cell = place-lt _ _ _ _ (start c .pre .1 .range) in omega (arith, 
 -- the cell and its bytes lie inside
 inside : (c : tie.After-read) → (place c < length (start c .args .flags .now))
     × (place c * start c .args .h .shape .w + start c .args .h .shape .w ≤ length (start c .args .cube .now))
-inside c =
-    let s = start c in
-    let end = stretch-end (place c) (cells (s .args .h .shape)) (s .args .h .shape .w) (below c) in
-    (omega (arith, below c, s .pre .2 .flags-size), omega (arith, s .pre .2 .cube-size))
+inside c = let s = start c in (omega (arith, below c, s .pre .2 .flags-size), cell-inside _ _ _ (below c) (s .pre .2 .cube-size))
 
 packet-requires : tie.Need-packet-requires
 packet-requires c κs = search needs
@@ -51,6 +46,11 @@ returns c =
 
 slice-read-if1 : tie.Need-slice-read-if1
 slice-read-if1 c = inside (c .before .before) .0
+
+returns-2 : tie.Need-returns-2
+returns-2 c =
+    let k = c .before .before .before in
+    placed-known _ _ _ _ _ (start k .pre .2) _ (told k .cell) (below k) (c .if1 .taken)
 
 mul-put : tie.Need-mul-put
 mul-put c =
@@ -71,40 +71,14 @@ same-length c = search needs
 same-length-2 : tie.Need-same-length-2
 same-length-2 c = search needs
 
-returns-2 : tie.Need-returns-2
-returns-2 c =
-    let k = c .before .before .before .before .before .before .before in
-    placed-first _ _ _ _ _ (start k .pre .2) _ (told k .cell) (below k) _ _ (λ w l. told k .byte w) _ (c .before .before .before .before .if1 .taken)
-    (c .before .before .put .ensures)
-
-mul-same : tie.Need-mul-same
-mul-same c =
-    let k = c .before .before .before .before in
-    omega (arith, inside k, start k .pre .2 .cube-size, start k .pre .0 .volume)
-
-same-requires : tie.Need-same-requires
-same-requires c κs = search needs
-
-same-length-3 : tie.Need-same-length-3
-same-length-3 c = search needs
-
 returns-3 : tie.Need-returns-3
 returns-3 c =
-    let k = c .before .before .before .before .before .before in
-    placed-again _ _ _ _ _ (start k .pre .2) _ (told k .cell) (below k) _ _ (λ w l. told k .byte w) (c .before .before .before .if1 .left)
-    (c .before .same .ensures .yes-then (c .if2 .taken))
+    let k = c .before .before .before .before .before .before .before in
+    placed-first _ _ _ _ _ (start k .pre .2) _ (told k .cell) (below k) _ _ _ (λ w l. told k .byte w) (c .before .before .before .before .if1 .left)
+    (c .before .before .put .ensures)
 
-same-length-4 : tie.Need-same-length-4
-same-length-4 c = search needs
-
-returns-4 : tie.Need-returns-4
-returns-4 c =
-    let k = c .before .before .before .before .before .before in
-    placed-other _ _ _ _ _ (start k .pre .2) _ (told k .cell) (below k) (start k .args .air .now) (from k) (λ w l. told k .byte w) (c .before .before .before .if1 .left)
-    (differing-byte (start k .args .air .now) (start k .args .cube .now) (from k) _ _ _ (c .before .same .ensures) (told k .inside, inside k .1) (c .if2 .left))
-
-pub place-packet-spec : {M : Type 1} → statement M
-place-packet-spec =
+pub place-first-spec : {M : Type 1} → statement M
+place-first-spec =
     tie.close
     (tie.spec
     packet-requires
@@ -112,15 +86,10 @@ place-packet-spec =
     enum-told
     returns
     slice-read-if1
+    returns-2
     mul-put
     put-requires
     slice-write-flags
     same-length
     same-length-2
-    returns-2
-    mul-same
-    same-requires
-    same-length-3
-    returns-3
-    same-length-4
-    returns-4)
+    returns-3)
