@@ -32,14 +32,35 @@ fn correct_block(s: &mut [u8], reduction: u8, run: Run)
     if block::codeword_block(s, reduction, run) {
         return;
     }
+    if run.width < 64 {
+        correct_narrow(s, reduction, run);
+    } else {
+        correct_wide(s, reduction, run);
+    }
+}
+
+fn correct_narrow(s: &mut [u8], reduction: u8, run: Run)
+    requires { ⌜ (Inside run (length (now s))) × (run .width ≤ 64) ⌝ }
+    ensures { λ r. ⌜ Corrected reduction run (now (s .entry)) (now (s .exit)) ⌝ }
+{
+    let mut s0 = [0u8; 64];
+    let mut s1 = [0u8; 64];
+    wide::syndromes(s, &mut s0, &mut s1, reduction, run);
+    correct_lines(s, &s0, &s1, reduction, run);
+}
+
+fn correct_wide(s: &mut [u8], reduction: u8, run: Run)
+    requires { ⌜ (Inside run (length (now s))) × (run .width ≤ 4096) ⌝ }
+    ensures { λ r. ⌜ Corrected reduction run (now (s .entry)) (now (s .exit)) ⌝ }
+{
     let mut s0 = [0u8; 4096];
     let mut s1 = [0u8; 4096];
     wide::syndromes(s, &mut s0, &mut s1, reduction, run);
     correct_lines(s, &s0, &s1, reduction, run);
 }
 
-fn correct_lines(s: &mut [u8], s0: &[u8; 4096], s1: &[u8; 4096], reduction: u8, run: Run)
-    requires { ⌜ (Inside run (length (now s))) × (run .width ≤ 4096) × (Syndromes reduction run (now s) (now s0) (now s1)) ⌝ }
+fn correct_lines(s: &mut [u8], s0: &[u8], s1: &[u8], reduction: u8, run: Run)
+    requires { ⌜ (Inside run (length (now s))) × (run .width ≤ length (now s0)) × (run .width ≤ length (now s1)) × (Syndromes reduction run (now s) (now s0) (now s1)) ⌝ }
     ensures { λ r. ⌜ Corrected reduction run (now (s .entry)) (now (s .exit)) ⌝ }
 {
     let width = run.width;

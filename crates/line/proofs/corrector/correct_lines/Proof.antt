@@ -19,20 +19,20 @@ abbrev μ-loop : tie.MeasureT-loop
 loop-holds : tie.Need-loop-holds Inv-loop μ-loop
 loop-holds c = (omega arith, changed-none _ _ _ _)
 
-element-copy-out-correct-line : tie.Need-element-copy-out-correct-line Inv-loop μ-loop
-element-copy-out-correct-line c = omega arith
+shared-slice-read-correct-line : tie.Need-shared-slice-read-correct-line Inv-loop μ-loop
+shared-slice-read-correct-line c = omega arith
 
-element-copy-out-correct-line-2 : tie.Need-element-copy-out-correct-line-2 Inv-loop μ-loop
-element-copy-out-correct-line-2 c = omega arith
+shared-slice-read-correct-line-2 : tie.Need-shared-slice-read-correct-line-2 Inv-loop μ-loop
+shared-slice-read-correct-line-2 c = omega arith
 
 correct-line-requires : tie.Need-correct-line-requires Inv-loop μ-loop
 correct-line-requires c κs =
-    let start = c .before .before .before .before .before .before in
+    let start = c .before .before .before .before .before .before .before .before in
     let line = line-later _ _ _ _ (c .before .before .before .before .loop .inv .1) (omega (arith, start .pre .0 .apart)) (c .before .before .before .before .loop .t) (omega arith) (omega (arith, start .pre .0 .apart)) in (
       inside-size (start .pre .0) (c .before .before .before .before .loop .inv .1 .size),
       omega arith,
-      start .pre .2 .first _ (omega arith) ∙ ap (λ (c : ℕ → ℕ). syndrome0 c (start .args .run .len)) (sym line),
-      start .pre .2 .second _ (omega arith) ∙ ap (λ (c : ℕ → ℕ). syndrome1 (start .args .reduction) c (start .args .run .len)) (sym line),
+      start .pre .3 .first _ (omega arith) ∙ ap (λ (c : ℕ → ℕ). syndrome0 c (start .args .run .len)) (sym line),
+      start .pre .3 .second _ (omega arith) ∙ ap (λ (c : ℕ → ℕ). syndrome1 (start .args .reduction) c (start .args .run .len)) (sym line),
     )
 
 add-t : tie.Need-add-t Inv-loop μ-loop
@@ -44,7 +44,7 @@ loop-less c = omega arith
 loop-again : tie.Need-loop-again Inv-loop μ-loop
 loop-again c = (
   omega arith,
-  changed-more _ _ _ _ 1 (omega arith) (c .before .before .before .before .before .before .before .before .before .pre .0 .apart) (c .before .before .before .before .before .before .before .loop .inv .1) (corrected-changed (c .before .before .correct-line .ensures)),
+  changed-more _ _ _ _ 1 (omega arith) (c .before .before .before .before .before .before .before .before .before .before .before .pre .0 .apart) (c .before .before .before .before .before .before .before .loop .inv .1) (corrected-changed (c .before .before .correct-line .ensures)),
 )
 
 same-length : tie.Need-same-length Inv-loop μ-loop
@@ -60,8 +60,8 @@ correct-lines-spec =
     Inv-loop
     μ-loop
     loop-holds
-    element-copy-out-correct-line
-    element-copy-out-correct-line-2
+    shared-slice-read-correct-line
+    shared-slice-read-correct-line-2
     correct-line-requires
     add-t
     loop-less
