@@ -6,7 +6,7 @@ use native.Mathlib.Nat.{mod-lt, mod-one, mod-self, zero-mod, mul-mod-left, add-m
 use native.Mathlib.Decide.{decLt}
 use native.Mathlib.Omega.{arith}
 use lib.ListN.{length, getD}
-use Rattle.span.proofs.Stretches.{stretch-end, factor-below}
+use Rattle.span.proofs.Stretches.{stretch-end}
 use Rattle.shape.specs.declared.Shape.{Shape}
 use Rattle.shape.specs.declared.Line.{Line}
 use Rattle.shape.specs.Shapes.{Valid, cells, strideOf, linesOf}
@@ -71,12 +71,6 @@ axes-code r sh xs v size bytes one two three =
     }
 
 -- ---- blocks of lines
-
--- the block that begins before the end of whole blocks ends there or before
-pub block-within : (m n s : ℕ) → m % s ≡ 0 → n % s ≡ 0 → m < n → m + s ≤ n
-block-within m n s em en less =
-    let block : m / s < n / s = factor-below (m / s) (n / s) s (omega (arith, div-add-mod' m s, div-add-mod' n s)) in
-    omega (arith, div-add-mod' m s, div-add-mod' n s, stretch-end (m / s) (n / s) s block)
 
 -- the rows and the columns of plane c, and the lines of axis 3
 module _ (sh : Shape) where

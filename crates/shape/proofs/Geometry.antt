@@ -3,7 +3,7 @@
 use mathlib.Core.Path.{_≡_, sym, ap, ap₂, subst, _∙_}
 use mathlib.Core.Bool.{Bool, true, false, cond}
 use Prim.Native.Nat.{ℕ, zero, suc, _+_, _*_, _/_, _%_, _≤_, _<_}
-use native.Mathlib.Nat.{add-zero, zero-add, add-comm, add-left-comm, mul-comm, mul-assoc, mul-left-comm, mul-add, add-mul, mul-one, one-mul, mul-zero, zero-mul, mul-pos, mod-lt, mod-one, div-one, mod-eq-of-lt, div-eq-of-lt, div-add-mod', div-div-eq-div-mul, div-lt-iff-lt-mul, mod-add-div, eq-of-mul-eq-mul-left}
+use native.Mathlib.Nat.{add-zero, zero-add, add-comm, add-left-comm, mul-comm, mul-assoc, mul-left-comm, mul-add, add-mul, mul-one, one-mul, mul-zero, zero-mul, mul-pos, mod-lt, mod-one, div-one, mod-eq-of-lt, div-eq-of-lt, div-add-mod', div-div-eq-div-mul, div-lt-iff-lt-mul, mod-add-div}
 use native.Mathlib.Omega.{arith}
 use lib.Arith.{digits-lt, digits-div, digits-mod}
 use lib.Dec.{leb, ltb}
@@ -246,10 +246,6 @@ pub line-length-high : (sh : Shape) (f s n : ℕ) → Valid sh → IsLine sh f s
 line-length-high sh _ _ _ v (along (axis1 b c p q)) = v .l1-high
 line-length-high sh _ _ _ v (along (axis2 a c p q)) = v .l2-high
 line-length-high sh _ _ _ v (along (axis3 a b p q)) = v .l3-high
-
--- the places of a line are different cells
-pub line-places-differ : (sh : Shape) (f s n i j : ℕ) → Valid sh → IsLine sh f s n → f + s * i ≡ f + s * j → i ≡ j
-line-places-differ sh f s n i j v l e = eq-of-mul-eq-mul-left s (line-stride-pos sh f s n v l) i j (omega arith)
 
 -- ---- lines by number
 
