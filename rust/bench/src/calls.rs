@@ -82,7 +82,7 @@ impl Calls {
     pub fn times(&mut self, rounds: usize, calls: &[Call]) -> Times {
         let work: Vec<&dyn Fn(&mut Calls)> = calls.iter().map(|call| &call.run as _).collect();
         let [file, pack] = [&self.file, &self.pack].map(Vec::clone);
-        let times = beside_memcpy(rounds, self.cube.len(), self, |_| {}, &work);
+        let times = beside_memcpy(rounds, self.shape, self, |_| {}, &work);
         assert!(self.file == file && self.pack == pack, "the file is kept");
         times
     }

@@ -100,7 +100,7 @@ impl Encoding {
     fn times(&mut self) -> Times {
         beside_memcpy(
             ROUNDS,
-            self.cube.len(),
+            self.shape,
             self,
             |_| {},
             &[

@@ -60,10 +60,9 @@ fn main() -> Result<(), Box<dyn Error>> {
         }
     };
     println!(
-        "Thread processor time, minimum of {ROUNDS} interleaved rounds where nothing else is said; ratios are to memcpy of the cube in the same"
-    );
-    println!(
-        "rounds, whose source has just been written. Buffers are allocated and touched before timing."
+        "\
+Thread processor time, minimum of {ROUNDS} interleaved rounds where nothing else is said. Ratios are to memcpy in the same rounds: of a
+cube that encode has just written, to a buffer that nothing else touches. Buffers are allocated and touched before timing."
     );
     let (mut rows, mut sizes, mut shares, mut bars) = (vec![], vec![], vec![], vec![]);
     for name in TABLES.into_iter().filter(|name| names.contains(name)) {

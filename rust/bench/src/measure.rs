@@ -3,6 +3,8 @@
 use std::hint::black_box;
 use std::time::Duration;
 
+use jibrufath::{Shape, encode};
+
 use crate::clock;
 
 /// Enough for several seconds a row: a shared machine is slow for a second or two at a time.
@@ -51,38 +53,44 @@ impl Row {
     }
 }
 
-/// memcpy of a cube, always in one state: its source has just been written, from the first byte to the last. Repeated at once, on a
-/// source that was only read since, it takes another time.
+/// memcpy of a cube, always in one state, that which a call meets behind another: the source is a cube that `encode` has just written, and
+/// the target is a buffer that nothing else touches. Repeated at once, on a source that was only read since, it takes another time.
 struct Memcpy {
-    source: Vec<u8>,
+    shape: Shape,
+    data: Vec<u8>,
+    cube: Vec<u8>,
     target: Vec<u8>,
 }
 
 impl Memcpy {
-    fn new(bytes: usize) -> Memcpy {
+    fn new(shape: Shape) -> Memcpy {
+        let bytes = shape.cube_bytes().expect("the shape is good");
+        let data_bytes = shape.capacity().expect("the shape is good");
         Memcpy {
-            source: vec![1; bytes],
+            shape,
+            data: vec![1; data_bytes],
+            cube: vec![1; bytes],
             target: vec![2; bytes],
         }
     }
 
+    /// Encoding is not timed.
     fn time(&mut self) -> Duration {
-        let written = self.source[0].wrapping_add(1);
-        black_box(&mut self.source).fill(written);
-        clock::time(|| black_box(&mut self.target).copy_from_slice(&self.source))
+        encode(self.shape, &self.data, &mut self.cube).expect("encodes");
+        clock::time(|| black_box(&mut self.target).copy_from_slice(&self.cube))
     }
 }
 
-/// The least times in so many rounds of pieces of work, and of memcpy of so many bytes. `before` comes before each piece of work, and
-/// is not timed.
+/// The least times in so many rounds of pieces of work, and of memcpy of a cube of this shape. `before` comes before each piece of work,
+/// and is not timed.
 pub fn beside_memcpy<S>(
     rounds: usize,
-    bytes: usize,
+    shape: Shape,
     state: &mut S,
     before: impl Fn(&mut S),
     work: &[&dyn Fn(&mut S)],
 ) -> Times {
-    let mut memcpy = Memcpy::new(bytes);
+    let mut memcpy = Memcpy::new(shape);
     let mut least = least(rounds, || {
         let mut times = round(state, &before, work);
         times.push(memcpy.time());

@@ -16,6 +16,7 @@ pub struct Kind {
 
 /// Packs of one shape, and the memory that they are received in.
 pub struct Receiving {
+    shape: Shape,
     kinds: Vec<Kind>,
     airs: Vec<Vec<u8>>,
     cube: Vec<u8>,
@@ -72,6 +73,7 @@ impl Receiving {
         let packets: Vec<Packet> = packets(&written)?.collect();
         let airs = kinds.iter().map(|kind| air(shape, &packets, &kind.cells));
         let mut state = Receiving {
+            shape,
             airs: airs.collect::<Result<_, _>>()?,
             kinds,
             cube: vec![1; shape.cube_bytes()?],
@@ -100,7 +102,7 @@ impl Receiving {
             .iter()
             .map(|one| one as &dyn Fn(&mut Receiving))
             .collect();
-        let times = beside_memcpy(rounds, self.cube.len(), self, |_| {}, &work);
+        let times = beside_memcpy(rounds, self.shape, self, |_| {}, &work);
         times.rows(self.kinds.iter().map(|kind| kind.what.as_str()))
     }
 

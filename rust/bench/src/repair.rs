@@ -99,13 +99,7 @@ impl Repair {
     }
 
     fn times(&mut self, rounds: usize, work: fn(&mut Repair)) -> Times {
-        beside_memcpy(
-            rounds,
-            self.right.len(),
-            self,
-            Repair::put_damage_back,
-            &[&work],
-        )
+        beside_memcpy(rounds, self.shape, self, Repair::put_damage_back, &[&work])
     }
 
     fn put_damage_back(&mut self) {

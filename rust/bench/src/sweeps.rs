@@ -17,8 +17,8 @@ const ROUNDS: usize = 5;
 pub fn table() -> Result<Vec<Bar>, Error> {
     println!(
         "\
-Receiving of L × L × L, W 1, without the cells of a pattern, over memcpy of the cube, whose source has just been written, and over a
-receive with nothing lost; minimum of {ROUNDS} rounds. Sweeps: those of a filling that goes through all lines each time.
+Receiving of L × L × L, W 1, without the cells of a pattern, over memcpy of the cube and over a receive with nothing lost; minimum of
+{ROUNDS} rounds. Sweeps: those of a filling that goes through all lines each time.
 
 | L | lost | of the cells | sweeps | milliseconds | over memcpy | over nothing lost |
 |---|---|---|---|---|---|---|"

@@ -44,8 +44,8 @@ struct Column {
 pub fn table() -> Result<Vec<Bar>, Error> {
     println!(
         "\
-Every call on large cubes: milliseconds, and over memcpy of the cube, whose source has just been written; minimum of
-{ROUNDS} rounds. Everything that is lost comes back; at random, four cells of a longest line on average: 1.6 to 9.3 % of the cells.
+Every call on large cubes: milliseconds, and over memcpy of the cube; minimum of {ROUNDS} rounds.
+Everything that is lost comes back; at random, four cells of a longest line on average: 1.6 to 9.3 % of the cells.
 "
     );
     let columns: Vec<Column> = SHAPES
