@@ -24,9 +24,11 @@ const SHAPES: [Shape; 7] = [
 /// The most cells, of the fewest bytes.
 const W_1: Shape = Shape::new(255, 255, 255, 1);
 
-/// The same lengths, so that a byte of the one compares with a byte of the other.
-const W_63: Shape = Shape::new(100, 100, 75, 63);
-const W_64: Shape = Shape::new(100, 100, 75, 64);
+/// The same lengths, so that a byte of the one compares with a byte of the other. Cells of a column lie 128 × W bytes apart, for both a
+/// multiple of 64: a processor fetches ahead along strides of whole cache lines, and along others it may not, which would tell W 64 from
+/// every other width and not 63 from 64.
+const W_63: Shape = Shape::new(128, 64, 90, 63);
+const W_64: Shape = Shape::new(128, 64, 90, 64);
 
 const CALLS: [Call; 6] = [ENCODE, CHECK, FILL, MEND, RECEIVE, WRITE];
 
