@@ -36,6 +36,7 @@ pub fn fill(cube: &mut [u8], flags: &mut [u8], sh: Shape) -> FillAnswer
     fill_missing(cube, flags, sh)
 }
 
+// The same where a cell is missing: cleared, peeled, verified, and settled or restored.
 fn fill_missing(cube: &mut [u8], flags: &mut [u8], sh: Shape) -> FillAnswer
     requires { ⌜ flagsChecked sh (length (now cube)) (now flags) ≡ passes tt ⌝ }
     ensures { λ r. ⌜ FillOutcome reduction sh (now (cube .entry)) (now (flags .entry)) (now (cube .exit)) (now (flags .exit)) (fillValue r) ⌝ }
