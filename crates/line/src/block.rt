@@ -122,7 +122,7 @@ pub(crate) fn block_after(run: Run, done: usize) -> Run
     ensures { λ r. ⌜ Block run done r ⌝ }
 {
     let left = run.width - done;
-    if 32 < run.len && 4096 <= run.width {
+    if 16 < run.len && 4096 <= run.width {
         return lines_from(run, done, least(left, 4096));
     }
     lines_from(run, done, least(left, 64))

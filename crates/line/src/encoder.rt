@@ -23,7 +23,7 @@ pub(crate) fn encode_blocks(
     requires { ⌜ (Inside to (length (now s))) × (Feeds from to (length (now «data»))) × (e ≡ erasuresAt reduction (to .len - 2) (to .len - 1)) ⌝ }
     ensures { λ r. ⌜ Encoded reduction from to (now («data» .entry)) (now (s .entry)) (now (s .exit)) ⌝ }
 {
-    if to.len <= 32 && 64 <= to.width {
+    if to.len <= 16 && 64 <= to.width {
         encode_strips(data, s, reduction, from, to, e);
         return;
     }
