@@ -1,5 +1,7 @@
 //! Every call on large cubes of all widths.
 
+use std::time::Duration;
+
 use compare::patterns::{at_random, in_succession};
 use jibrufath::{Error, Shape};
 use reference::random::Random;
@@ -7,7 +9,7 @@ use reference::random::Random;
 use crate::REFERENCE_SET;
 use crate::bars::Bar;
 use crate::calls::{CHECK, Call, Calls, ENCODE, FILL, MEND, RECEIVE, WRITE};
-use crate::measure::{Row, milliseconds};
+use crate::measure::{milliseconds, over};
 use crate::repair::Repair;
 
 /// The reference set, and cubes from 16 to 48 megabytes.
@@ -32,36 +34,46 @@ const W_64: Shape = Shape::new(128, 64, 90, 64);
 
 const CALLS: [Call; 6] = [ENCODE, CHECK, FILL, MEND, RECEIVE, WRITE];
 
-/// Fewer rounds than for the reference set: one takes up to a second.
-const ROUNDS: usize = 20;
+/// Each turn takes every shape, so that a machine that is slow for some seconds is not slow for one of them.
+const TURNS: usize = 4;
 
-/// The times of one shape.
+/// The rounds of a turn. Fewer than for the reference set: one takes up to a second.
+const ROUNDS: usize = 5;
+
+/// The least times of one shape.
 struct Column {
     shape: Shape,
-    memcpy: f64,
-    rows: Vec<Row>,
+    memcpy: Duration,
+    rows: Vec<(&'static str, Duration)>,
 }
 
 /// Prints the table, and gives the bars that it is held to.
 pub fn table() -> Result<Vec<Bar>, Error> {
     println!(
         "\
-Every call on large cubes: milliseconds, and over memcpy of the cube; minimum of {ROUNDS} rounds.
+Every call on large cubes: milliseconds, and over memcpy of the cube; minimum of {TURNS} turns of {ROUNDS} rounds, each turn with all shapes.
 Everything that is lost comes back; at random, four cells of a longest line on average: 1.6 to 9.3 % of the cells.
 "
     );
-    let columns: Vec<Column> = SHAPES
-        .into_iter()
-        .map(Column::measure)
-        .collect::<Result<_, _>>()?;
+    let mut columns = one_turn()?;
+    for _ in 1..TURNS {
+        for (column, again) in columns.iter_mut().zip(one_turn()?) {
+            column.keep_least(&again);
+        }
+    }
     print_columns(&columns);
     Ok(bars(&columns))
+}
+
+fn one_turn() -> Result<Vec<Column>, Error> {
+    SHAPES.into_iter().map(Column::measure).collect()
 }
 
 impl Column {
     fn measure(shape: Shape) -> Result<Column, Error> {
         let calls = Calls::new(shape)?.times(ROUNDS, &CALLS);
-        let mut rows = calls.rows(CALLS.iter().map(|call| call.name));
+        let names = CALLS.iter().map(|call| call.name);
+        let mut rows: Vec<_> = names.zip(calls.work).collect();
         let longest = shape.l1.max(shape.l2).max(shape.l3);
         for (what, flags) in [
             ("fill, 2 × L1 × L2 in succession lost", in_succession(shape)),
@@ -71,19 +83,30 @@ impl Column {
             ),
         ] {
             let mut repair = Repair::new(shape, flags)?;
-            rows.extend(repair.fill_times(ROUNDS).rows([what]));
+            rows.extend([what].into_iter().zip(repair.fill_times(ROUNDS).work));
             assert_eq!(repair.left(), 0, "{shape:?}, {what}");
         }
         Ok(Column {
             shape,
-            memcpy: milliseconds(calls.memcpy),
+            memcpy: calls.memcpy,
             rows,
         })
     }
 
-    fn row(&self, what: &str) -> &Row {
-        let row = self.rows.iter().find(|row| row.what == what);
-        row.expect("a row of the table")
+    fn keep_least(&mut self, again: &Column) {
+        self.memcpy = self.memcpy.min(again.memcpy);
+        for ((_, least), (_, time)) in self.rows.iter_mut().zip(&again.rows) {
+            *least = (*least).min(*time);
+        }
+    }
+
+    fn time(&self, what: &str) -> Duration {
+        let row = self.rows.iter().find(|(name, _)| *name == what);
+        row.expect("a row of the table").1
+    }
+
+    fn over_memcpy(&self, what: &str) -> f64 {
+        over(self.time(what), self.memcpy)
     }
 }
 
@@ -97,11 +120,13 @@ fn print_columns(columns: &[Column]) {
         format!("{l1} × {l2} × {l3}, W {w}")
     });
     print_line("---", &|_| "---".into());
-    print_line("memcpy", &|column| format!("{:.2} ms", column.memcpy));
-    for Row { what, .. } in &columns[0].rows {
+    print_line("memcpy", &|column| {
+        format!("{:.2} ms", milliseconds(column.memcpy))
+    });
+    for (what, _) in &columns[0].rows {
         print_line(what, &|column| {
-            let row = column.row(what);
-            format!("{:.2} ms, {:.2}", row.milliseconds, row.ratio)
+            let time = milliseconds(column.time(what));
+            format!("{time:.2} ms, {:.2}", column.over_memcpy(what))
         });
     }
 }
@@ -116,19 +141,16 @@ fn bars(columns: &[Column]) -> Vec<Bar> {
     for (call, most) in [(CHECK, 12.0), (RECEIVE, 45.0)] {
         bars.push(Bar {
             what: format!("255 cubed, W 1: {}, over memcpy", call.name),
-            measured: column(W_1).row(call.name).ratio,
+            measured: column(W_1).over_memcpy(call.name),
             most,
         });
     }
     let [narrow, wide] = [W_63, W_64].map(column);
-    for Row {
-        what, milliseconds, ..
-    } in &narrow.rows
-    {
+    for &(what, time) in &narrow.rows {
         let bytes = wide.shape.w as f64 / narrow.shape.w as f64;
         bars.push(Bar {
             what: format!("a byte of W 63 over one of W 64: {what}"),
-            measured: milliseconds * bytes / wide.row(what).milliseconds,
+            measured: over(time, wide.time(what)) * bytes,
             most: 1.1,
         });
     }
