@@ -13,7 +13,7 @@ use Rattle.shape.specs.declared.Line.{Line}
 use Rattle.answer.specs.Values.{Checked, passes, check, andThen}
 use Rattle.answer.proofs.Values.{check-passed, then-passed, passes-injective}
 use Rattle.shape.specs.Shapes.{Valid, within, cells, cell, AxisLine, axis1, axis2, axis3, IsLine, along, strideOf, lengthOf, linesOf, firstOf, shapeChecked, lineIn, lineOf}
-use Rattle.shape.proofs.Valid.{shape-passed, valid-passes, within-parts, within-true}
+use Rattle.shape.proofs.Valid.{shape-passed, valid-passes, within-parts, within-true, area-le}
 
 -- ---- line and place of a cell, over stride and length
 
@@ -237,6 +237,11 @@ line-stride-pos sh _ _ _ v (along (axis1 b c p q)) = omega arith
 line-stride-pos sh _ _ _ v (along (axis2 a c p q)) = omega (arith, v .l1-low)
 line-stride-pos sh _ _ _ v (along (axis3 a b p q)) = mul-pos (omega (arith, v .l1-low)) (omega (arith, v .l2-low))
 
+pub line-stride-high : (sh : Shape) (f s n : ℕ) → Valid sh → IsLine sh f s n → s ≤ 65025
+line-stride-high sh _ _ _ v (along (axis1 b c p q)) = omega arith
+line-stride-high sh _ _ _ v (along (axis2 a c p q)) = omega (arith, v .l1-high)
+line-stride-high sh _ _ _ v (along (axis3 a b p q)) = area-le (sh .l1) (sh .l2) (v .l1-high) (v .l2-high)
+
 pub line-length-low : (sh : Shape) (f s n : ℕ) → Valid sh → IsLine sh f s n → 3 ≤ n
 line-length-low sh _ _ _ v (along (axis1 b c p q)) = v .l1-low
 line-length-low sh _ _ _ v (along (axis2 a c p q)) = v .l2-low
@@ -369,3 +374,11 @@ pub line-every : (sh : Shape) (f s n : ℕ) → Valid sh → IsLine sh f s n
 line-every sh f s n v (along {axis} l) =
     let (m, low, high, h, e) = axis-line-every sh axis f s n v l in
     (axis, m, low, high, h, e)
+
+-- the three axes have all lines
+pub all-axes : {sh : Shape} (P : ℕ → ℕ → ℕ → Type 0) → Valid sh
+    → ((axis : ℕ) → 1 ≤ axis → axis ≤ 3 → (f s n : ℕ) → AxisLine sh axis f s n → P f s n)
+    → (f s n : ℕ) → IsLine sh f s n → P f s n
+all-axes {sh} P v h f s n (along {axis} l) =
+    let (m, low, high, b, found) = axis-line-every sh axis f s n v l in
+    h axis low high f s n l

@@ -1,0 +1,5 @@
+-- Why the crate `erasures` meets its contracts.
+-- Scanning: the missing cells of a line, place after place.
+mod Scanning
+-- Inside: which lines are looked at; every line of a valid shape is.
+pub mod Inside

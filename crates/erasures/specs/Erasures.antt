@@ -1,0 +1,34 @@
+-- The erasures of a line: which lines are looked at, what is found on one, and what `scan` answers for every input.
+use mathlib.Core.Path.{_≡_}
+use mathlib.Core.Bool.{Bool, true, false}
+use mathlib.Core.List.{List}
+use mathlib.Core.Logic.{_≢_}
+use Prim.Native.Nat.{ℕ, _+_, _*_, _≤_, _<_, min}
+use lib.ListN.{length}
+use Rattle.span.specs.Decision.{Cases}
+use Rattle.shape.specs.Flags.{missing}
+use Rattle.stopping.specs.Stopping.{onLine}
+
+-- A line that is looked at: it has a place, is no longer than a line of a cube and its places no further apart, and each place has a flag.
+pub record Places (fs : List ℕ) (first stride len : ℕ) : Type 0 where
+  pub some : 1 ≤ len
+  pub few : len ≤ 255
+  pub near : stride ≤ 65025
+  pub within : (i : ℕ) → i < len → first + stride * i < length fs
+
+-- The cells of M on a line: how many, at most three, and where they are one or two, which. Then `first` and `last` are the places, the same for one.
+pub record Scanned (M : ℕ → Bool) (start stride len count first last : ℕ) : Type 0 where
+  pub number : count ≡ min 3 (onLine M start stride len)
+  pub order : 1 ≤ count → first ≤ last
+  pub bound : 1 ≤ count → last < len
+  pub one : count ≡ 1 → first ≡ last
+  pub two : count ≡ 2 → first < last
+  pub at-first : 1 ≤ count → M (start + stride * first) ≡ true
+  pub at-last : 1 ≤ count → M (start + stride * last) ≡ true
+  pub others : count ≤ 2 → (i : ℕ) → i < len → i ≢ first → i ≢ last → M (start + stride * i) ≡ false
+
+-- what `scan` answers: the missing cells of a line that is looked at, and nothing found on any other
+abbrev pub ScanOutcome : List ℕ → ℕ → ℕ → ℕ → ℕ → ℕ → ℕ → Type 0
+ScanOutcome fs start stride len count first last =
+    Cases (Places fs start stride len) (Scanned (missing fs) start stride len count first last)
+    ((count ≡ 0) × (first ≡ 0) × (last ≡ 0))

@@ -1,0 +1,2 @@
+-- What a reader of the crate `erasures` must believe.
+pub mod Erasures
