@@ -11,7 +11,7 @@ pub struct MissingPlaces {
     pub last: usize,
 }
 
-// The missing cells of a line whose places all have a flag; of any other line no place is looked at.
+// The missing cells of a line whose places all have a flag; no other line is looked at, and nothing found on it.
 pub fn scan(flags: &[u8], line: Line) -> MissingPlaces
     ensures { λ r. ⌜ ScanOutcome (now (flags .entry)) (line .first) (line .stride) (line .len) (r .count) (r .first) (r .last) ⌝ }
 {

@@ -1,5 +1,5 @@
 -- The checks 1 to 5, by what each of them finds; and what a call that passes them has.
-use mathlib.Core.Path.{_≡_, refl, ap, _∙_}
+use mathlib.Core.Path.{_≡_, refl}
 use mathlib.Core.Bool.{Bool, true, false, cond}
 use mathlib.Core.List.{List}
 use mathlib.Core.Logic.{_≢_, _⊎_, ⊎-elim}
@@ -19,11 +19,12 @@ use Rattle.shape.specs.declared.Shape.{Shape}
 use Rattle.shape.specs.declared.Sizes.{Sizes}
 use Rattle.shape.specs.declared.Measured.{Measured}
 use Rattle.shape.specs.declared.Measured.the-variants.{Refused as Misfit}
-use Rattle.shape.specs.Shapes.{both, cells, sizes, shapeChecked, measuredValue}
+use Rattle.shape.specs.Shapes.{both, shapeChecked, measuredValue}
 use Rattle.shape.specs.Flags.{flagsValid}
-use Rattle.shape.proofs.Valid.{both-parts, both-true, shape-passed, shape-number, measure-refused}
+use Rattle.shape.proofs.Valid.{both-parts, both-true, shape-number, measure-refused}
 use Rattle.fill.specs.Fill.{flagsChecked}
-use Rattle.fill.specs.Inner.Cells.{Sized}
+use Rattle.peel.specs.Peel.{Sized}
+use Rattle.peel.proofs.Sizing.{passed-sized}
 
 -- ---- what the checks answer
 
@@ -67,11 +68,7 @@ checks-passed sh n fs e =
     (z, fits, eqb-true n (z .bytes) p, eqb-true (length fs) (z .cells) q, check-passed (flagsValid fs) 5 (passes tt) tt last .0)
 
 pub done-sized : (sh : Shape) (xs fs : List ℕ) → flagsChecked sh (length xs) fs ≡ passes tt → Sized sh xs fs
-unfolding sizes
-done-sized sh xs fs e =
-    let (z, fits, p, q, v) = checks-passed sh (length xs) fs e in
-    let (valid, same) = shape-passed sh z fits in
-    record { valid = valid; bytes = p ∙ ap (λ (y : Sizes). y .bytes) same; flags = q ∙ ap (λ (y : Sizes). y .cells) same }
+done-sized sh xs fs e = let (z, fits, p, q, v) = checks-passed sh (length xs) fs e in passed-sized sh xs fs z fits p q
 
 pub done-flags : (sh : Shape) (n : ℕ) (fs : List ℕ) → flagsChecked sh n fs ≡ passes tt → flagsValid fs ≡ true
 done-flags sh n fs e = let (z, fits, p, q, v) = checks-passed sh n fs e in v

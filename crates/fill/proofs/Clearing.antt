@@ -4,26 +4,23 @@ use mathlib.Core.Bool.{Bool, true, false, true≢false}
 use mathlib.Core.List.{List}
 use mathlib.Core.Logic.{_≢_, _⊎_, inl, inr}
 use Prim.Native.Nat.{ℕ, _+_, _*_, _≤_, _<_}
-use native.Mathlib.Nat.{suc-mul, mul-le-mul-right}
 use native.Mathlib.Decide.{ℕ-discrete, decLt}
 use native.Mathlib.Omega.{arith}
 use lib.ListN.{length, getD}
 use Rattle.span.specs.Span.{SetTo}
 use Rattle.span.proofs.Keeping.{kept-beside}
+use Rattle.span.proofs.Stretches.{stretch-end}
 use Rattle.shape.specs.declared.Shape.{Shape}
 use Rattle.shape.specs.Shapes.{cells}
 use Rattle.data.specs.Data.{layer}
 use Rattle.fill.specs.Fill.{Cleared}
-use Rattle.fill.specs.Inner.Cells.{Sized}
-
-pub cell-end : (n m w : ℕ) → n < m → n * w + w ≤ m * w
-cell-end n m w l = omega (arith, suc-mul n w, mul-le-mul-right w l)
+use Rattle.peel.specs.Peel.{Sized}
 
 pub cells-apart : (n m w t : ℕ) → n ≢ m → t < w → (n * w + t < m * w) ⊎ (m * w + w ≤ n * w + t)
 cells-apart n m w t ne l =
     elim (decLt n m) [
-      | yes a ↦ inl (omega (arith, cell-end n m w a))
-      | no b ↦ let a : m < n = omega arith in inr (omega (arith, cell-end m n w a))
+      | yes a ↦ inl (omega (arith, stretch-end n m w a))
+      | no b ↦ let a : m < n = omega arith in inr (omega (arith, stretch-end m n w a))
     ]
 
 pub set-cell : (n m w t : ℕ) (xs ys : List ℕ) → SetTo xs (m * w) w 0 ys → n ≢ m → t < w → getD ys (n * w + t) 0 ≡ getD xs (n * w + t) 0
@@ -32,7 +29,7 @@ set-cell n m w t xs ys z ne l = kept-beside (z .kept) (n * w + t) (cells-apart n
 pub cell-room : (sh : Shape) (xs fs : List ℕ) → Sized sh xs fs → (n : ℕ) → n < length fs → n * sh .w + sh .w ≤ length xs
 cell-room sh xs fs z n l =
     let m : n < cells sh = omega (arith, z .flags) in
-    omega (arith, z .bytes, cell-end n (cells sh) (sh .w) m)
+    omega (arith, z .bytes, stretch-end n (cells sh) (sh .w) m)
 
 -- the cells of M below `bound` are 00h, all others as they were
 pub record ClearedTo (w : ℕ) (M : ℕ → Bool) (bound : ℕ) (xs ys : List ℕ) : Type 0 where

@@ -1,22 +1,12 @@
 -- Why the crate `fill` meets its contracts.
 -- Clearing: cells made 00h one after the other.
 mod Clearing
--- Marks: flags and their counts.
+-- Marks: the flags of filled cells, and the count of missing ones.
 mod Marks
--- Scanning: the missing cells of a line, place after place, and neighbouring lines that miss the same.
-mod Scanning
--- Lines: lines of the cube as a run of bytes, and what holds of every line of an axis.
+-- Lines: a line of the cube as a run of bytes, whether it is right, and what holds of every line of an axis.
 mod Lines
 -- Checks: the checks 1 to 5, by what each of them finds, and their numbers.
 pub mod Checks
--- Reaching: peeling as a relation between two states.
-mod Reaching
--- Together: neighbouring lines filled together are a step of peeling.
-mod Together
--- Awake: which lines may have changed.
-mod Awake
--- Visiting: lines visited, and groups of lines that need no visit.
-mod Visiting
 -- Outcome: what the steps of a call add up to.
 mod Outcome
 -- Unique: there is at most one filling, the contract of `fill` determines answer, cube and flags, and bytes of missing cells do not matter.

@@ -1,42 +1,20 @@
--- Flags: whether all are valid, whether none is 1, and the flags of filled cells given a value one after the other.
+-- The flags of filled cells given a value one after the other, and the count of those that are 1.
 use mathlib.Core.Path.{_≡_, refl, sym, ap, _∙_}
-use mathlib.Core.Bool.{true, false, not}
-use mathlib.Core.List.{List, [], _∷_}
+use mathlib.Core.Bool.{true, false}
+use mathlib.Core.List.{List}
 use mathlib.Core.Logic.{_≢_, _⊎_, ⊎-elim}
-use Prim.Native.Nat.{ℕ, zero, suc, _+_, _≤_, _<_}
+use Prim.Native.Nat.{ℕ, _+_, _≤_, _<_}
 use native.Mathlib.Numerals.{add-one}
 use native.Mathlib.Decide.{ℕ-discrete}
 use native.Mathlib.Omega.{arith}
-use borrow.Author.Tests.{not-true, leb-true, le-leb, eqb-true, eqb-false, eq-eqb, ne-eqb}
-use lib.Dec.{leb, eqb}
+use borrow.Author.Tests.{eqb-true, eqb-false, eq-eqb, ne-eqb}
+use lib.Dec.{eqb}
 use lib.ListN.{length, getD, set, length-set}
 use lib.Seq.{getD-set-same, getD-set-other}
-use Rattle.shape.proofs.Valid.{both-parts, both-true}
 use Rattle.stopping.specs.Stopping.{number}
 use Rattle.stopping.proofs.Number.{number-in, number-out, number-cong}
-use Rattle.shape.specs.Flags.{missing, flagsValid, noneMissing}
+use Rattle.shape.specs.Flags.{missing}
 use Rattle.fill.specs.Inner.Cells.{filled, Remarked}
-
--- ---- flags 0 and 1
-
-pub valid-flag : (fs : List ℕ) → flagsValid fs ≡ true → (n : ℕ) → getD fs n 0 ≤ 1
-unfolding flagsValid
-valid-flag [] e n = omega arith
-valid-flag (f ∷ fs) e zero = leb-true f 1 (both-parts (leb f 1) (flagsValid fs) e .0)
-valid-flag (f ∷ fs) e (suc n) = valid-flag fs (both-parts (leb f 1) (flagsValid fs) e .1) n
-
-pub flags-valid : (fs : List ℕ) → ((n : ℕ) → n < length fs → getD fs n 0 ≤ 1) → flagsValid fs ≡ true
-unfolding flagsValid
-flags-valid [] h = refl
-flags-valid (f ∷ fs) h = both-true (leb f 1) (flagsValid fs) (le-leb f 1 (h 0 (omega arith))) (flags-valid fs (λ n l. h (suc n) (omega arith)))
-
--- ---- no flag 1
-
-pub none-missing : (fs : List ℕ) → noneMissing fs ≡ true → (n : ℕ) → missing fs n ≡ false
-unfolding noneMissing missing
-none-missing [] e n = refl
-none-missing (f ∷ fs) e zero = not-true (eqb f 1) (both-parts (not (eqb f 1)) (noneMissing fs) e .0)
-none-missing (f ∷ fs) e (suc n) = none-missing fs (both-parts (not (eqb f 1)) (noneMissing fs) e .1) n
 
 -- ---- the flags of filled cells
 
@@ -123,42 +101,3 @@ pub count-turn : (v : ℕ) (gs hs : List ℕ) (n : ℕ) → ((getD gs n 0 ≡ 3)
 count-turn v gs hs n s =
     ⊎-elim (λ (w : (getD gs n 0 ≡ 3) × (hs ≡ set gs n v)). rw (w .1) (missing-below gs n v))
     (λ (w : (getD gs n 0 ≢ 3) × (hs ≡ gs)). rw (w .1)) s
-
--- ---- the marks of a filled line
-
-pub one-missing : (fs : List ℕ) (n : ℕ) → missing fs n ≡ true → getD fs n 0 ≡ 1
-unfolding missing
-one-missing fs n e = eqb-true (getD fs n 0) 1 e
-
-pub missing-one : (fs : List ℕ) (n : ℕ) → getD fs n 0 ≡ 1 → missing fs n ≡ true
-unfolding missing
-missing-one fs n e = eq-eqb (getD fs n 0) 1 e
-
-pub not-missing : (fs : List ℕ) (n : ℕ) → getD fs n 0 ≢ 1 → missing fs n ≡ false
-unfolding missing
-not-missing fs n ne = ne-eqb (getD fs n 0) 1 ne
-
-pub missing-cong : (fs gs : List ℕ) (n : ℕ) → getD gs n 0 ≡ getD fs n 0 → missing gs n ≡ missing fs n
-unfolding missing
-missing-cong fs gs n e = ap (λ (f : ℕ). eqb f 1) e
-
-module _ (fs : List ℕ) (a b : ℕ) where
-  -- the flags with a and b marked
-  abbrev pub both-marked : List ℕ
-  both-marked = set (set fs a 3) b 3
-
-  pub marked-length : length both-marked ≡ length fs
-  marked-length = simp length-set
-
-  pub marked-other : (n : ℕ) → n ≢ a → n ≢ b → getD both-marked n 0 ≡ getD fs n 0
-  marked-other n na nb = getD-set-other (set fs a 3) b n 3 0 nb ∙ getD-set-other fs a n 3 0 na
-
-  pub marked-last : b < length fs → getD both-marked b 0 ≡ 3
-  marked-last l = getD-set-same (set fs a 3) b 3 0 (simp length-set l)
-
-  pub marked-first : a < length fs → b < length fs → getD both-marked a 0 ≡ 3
-  marked-first la lb =
-      elim (ℕ-discrete a b) [
-        | yes e ↦ ap (λ (n : ℕ). getD both-marked n 0) e ∙ marked-last lb
-        | no ne ↦ getD-set-other (set fs a 3) b a 3 0 ne ∙ getD-set-same fs a 3 0 la
-      ]

@@ -29,12 +29,12 @@ use Rattle.stopping.proofs.Cube.{cube-fits}
 use Rattle.fill.specs.declared.FillAnswer.the-variants.{Left, Refused as NotFilled}
 use Rattle.shape.specs.Flags.{missing}
 use Rattle.fill.specs.Fill.{CellsLeft, fillValue, flagsChecked, Filling, Cleared, FillOutcome, fill-refused, fill-done, fill-contradiction}
-use Rattle.fill.specs.Inner.Cells.{filled, Sized, Remarked}
-use Rattle.fill.specs.Inner.Peel.{Stops, Agrees, Peeled}
+use Rattle.peel.specs.Peel.{Sized, Stops, Agrees, Peeled}
+use Rattle.fill.specs.Inner.Cells.{filled, Remarked}
 use Rattle.fill.specs.Inner.Verify.{Right, AllRight}
 use Rattle.fill.proofs.Checks.{done-sized, done-flags}
-use Rattle.fill.proofs.Marks.{valid-flag, flags-valid, missing-one, not-missing, missing-cong}
-use Rattle.fill.proofs.Reaching.{reaches-missing}
+use Rattle.shape.proofs.Missing.{valid-flag, flags-valid, missing-one, not-missing, missing-cong}
+use Rattle.peel.proofs.Reaching.{reaches-missing}
 
 -- ---- flags at the end of a call
 

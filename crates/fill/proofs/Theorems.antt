@@ -12,9 +12,9 @@ use Rattle.stopping.proofs.Number.{number-cong, number-none}
 use Rattle.stopping.proofs.Stopping.{largest-unique}
 use Rattle.fill.specs.Fill.{left, Filling, fill-refused, fill-done, fill-contradiction}
 use Rattle.fill.specs.Theorems.{OneFilling, MissingNotRead, FillingOrContradiction, CheckOfCube}
-use Rattle.fill.specs.Inner.Cells.{Sized}
+use Rattle.peel.specs.Peel.{Sized}
 use Rattle.fill.proofs.Checks.{done-sized, done-flags}
-use Rattle.fill.proofs.Marks.{none-missing}
+use Rattle.shape.proofs.Missing.{none-missing}
 use Rattle.fill.proofs.Whole.{empty, code-filling, kept, filled-code}
 use Rattle.fill.proofs.Unique.{flags-ext, filling-unique, filling-cong, done-refused, outcome-known}
 

@@ -28,9 +28,9 @@ use Rattle.stopping.proofs.Number.{true-or-false, not-true-false, number-few}
 use Rattle.stopping.proofs.Stopping.{union, union-left, union-right, union-cases, union-neither, onLine-mono, onLine-cong, onLine-none, onLine-zero, stops-or-peels, largest-unique}
 use Rattle.fill.specs.Fill.{CellsLeft, left, flagsChecked, Filling, Cleared, FillOutcome, fill-refused, fill-done, fill-contradiction}
 use Rattle.fill.specs.Theorems.{SameKnown}
-use Rattle.fill.specs.Inner.Cells.{Sized}
+use Rattle.peel.specs.Peel.{Sized}
 use Rattle.fill.proofs.Checks.{done-sized}
-use Rattle.fill.proofs.Marks.{valid-flag, one-missing, missing-one}
+use Rattle.shape.proofs.Missing.{valid-flag, one-missing, missing-one}
 
 -- lists of W bytes a cell that agree in every layer of every cell are equal
 pub layers-ext : (sh : Shape) (xs ys : List ℕ) → Valid sh → length xs ≡ sh .w * cells sh → length ys ≡ sh .w * cells sh

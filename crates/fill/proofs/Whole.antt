@@ -22,7 +22,7 @@ use Rattle.fill.specs.declared.FillAnswer.the-variants.{Left, Refused}
 use Rattle.fill.specs.Fill.{CellsLeft, left, fillValue, flagsChecked, Filling, FillOutcome, fill-done, fill-contradiction}
 use Rattle.fill.specs.Inner.Verify.{WholeChecked}
 use Rattle.fill.proofs.Checks.{done-sized, done-flags}
-use Rattle.fill.proofs.Marks.{none-missing}
+use Rattle.shape.proofs.Missing.{none-missing}
 use Rattle.fill.proofs.Unique.{layers-ext}
 
 module _ (r : ℕ) (sh : Shape) (xs fs : List ℕ) (none : noneMissing fs ≡ true) (done : flagsChecked sh (length xs) fs ≡ passes tt) where

@@ -1,4 +1,3 @@
 -- What the functions inside the crate `fill` promise each other, by module. A cell that a call has filled has flag 3 until the call ends.
 pub mod Cells
-pub mod Peel
 pub mod Verify

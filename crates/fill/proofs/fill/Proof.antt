@@ -6,7 +6,7 @@ use lib.ListN.{length}
 use Rattle.answer.specs.Values.{passes}
 use Rattle.answer.proofs.Values.{answer-passed}
 use Rattle.fill.specs.Fill.{flagsChecked}
-use Rattle.fill.specs.Inner.Cells.{Sized}
+use Rattle.peel.specs.Peel.{Sized}
 use Rattle.fill.proofs.Checks.{done-sized}
 use Rattle.fill.proofs.Outcome.{fill-unfit}
 use Rattle.fill.proofs.Whole.{whole-outcome}

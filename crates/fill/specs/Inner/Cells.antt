@@ -1,22 +1,14 @@
--- Cells and flags between the steps of a call.
+-- Flags between the steps of a call.
 use mathlib.Core.Path.{_≡_}
 use mathlib.Core.Bool.{Bool, true, false}
 use mathlib.Core.List.{List}
-use Prim.Native.Nat.{ℕ, _*_, _<_}
+use Prim.Native.Nat.{ℕ, _<_}
 use lib.Dec.{eqb}
 use lib.ListN.{length, getD}
-use Rattle.shape.specs.declared.Shape.{Shape}
-use Rattle.shape.specs.Shapes.{Valid, cells}
 
 -- a cell that this call has filled
 unfoldable pub filled : List ℕ → ℕ → Bool
 filled fs n = eqb (getD fs n 0) 3
-
--- cube and flags have the lengths of a valid shape
-pub record Sized (sh : Shape) (xs fs : List ℕ) : Type 0 where
-  pub valid : Valid sh
-  pub bytes : length xs ≡ sh .w * cells sh
-  pub flags : length fs ≡ cells sh
 
 -- the flags of filled cells have become v, the others are as before
 pub record Remarked (v : ℕ) (fs fs′ : List ℕ) : Type 0 where

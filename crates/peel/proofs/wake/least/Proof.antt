@@ -1,0 +1,13 @@
+-- `peel::wake::least` gives the smaller number.
+use native.Mathlib.Omega.{arith}
+use Rattle.peel.proofs.wake.least.Statement.{statement}
+use Rattle.peel.proofs.wake.least.Tie as tie
+
+returns : tie.Need-returns
+returns c = omega arith
+
+returns-2 : tie.Need-returns-2
+returns-2 c = omega arith
+
+pub least-spec : {M : Type 1} → statement M
+least-spec = tie.close (tie.spec returns returns-2)

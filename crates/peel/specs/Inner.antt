@@ -1,0 +1,2 @@
+-- What the functions inside the crate `peel` promise each other.
+pub mod Steps
