@@ -23,7 +23,7 @@ use Rattle.pack.specs.declared.PartsRead.the-variants.{Parts, Absent as 
 use Rattle.pack.specs.Reading.{packetSize, airOf}
 use Rattle.pack.specs.Packets.{packetAt, packetIn, source, Stands, PartsOutcome, standing, not-standing, InRange, Named, PacketOutcome, named, unnamed}
 use Rattle.pack.specs.Inner.Packets.{withinLimits, namedBy}
-use Rattle.pack.proofs.Sound.{air-sound, packets-le}
+use Rattle.pack.proofs.Sound.{air-sound}
 
 -- ---- the limits of a packet
 
