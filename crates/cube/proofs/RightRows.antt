@@ -2,16 +2,15 @@
 use mathlib.Core.Path.{_≡_, refl, sym, ap, subst, _∙_}
 use mathlib.Core.List.{List}
 use Prim.Native.Nat.{ℕ, zero, suc, _+_, _-_, _*_, _/_, _%_, _≤_, _<_}
-use native.Mathlib.Nat.{mul-assoc, mul-comm, mul-left-comm, add-mul, mul-add, add-assoc, add-comm, add-left-comm, add-zero, suc-mul, zero-mul, mul-suc, mul-div-cancel, div-add-mod'}
+use native.Mathlib.Nat.{mul-assoc, mul-comm, mul-left-comm, add-mul, add-zero, suc-mul, mul-suc, mul-div-cancel, div-add-mod'}
 use native.Mathlib.Decide.{decLe}
 use native.Mathlib.Omega.{arith}
-use lib.Arith.{digits-div, digits-mod}
 use lib.ListN.{length}
 use Rattle.answer.specs.Values.{passes}
 use Rattle.shape.specs.declared.Shape.{Shape}
 use Rattle.shape.specs.declared.Line.{Line}
 use Rattle.shape.specs.Shapes.{Valid, cells, strideOf, lengthOf, linesOf, firstOf, lineOf}
-use Rattle.shape.proofs.Geometry.{strideOf-pos, line-of}
+use Rattle.shape.proofs.Geometry.{strideOf-pos}
 use Rattle.line.specs.declared.Run.{Run}
 use Rattle.line.specs.Line.{Codeword}
 use Rattle.line.specs.Run.{lineAt, Inside, AllCodewords}

@@ -1,9 +1,8 @@
 -- All syndromes are 0 exactly when all lines are codewords.
-use mathlib.Core.Path.{_≡_, sym, _∙_}
+use mathlib.Core.Path.{sym, _∙_}
 use mathlib.Core.List.{List}
 use Prim.Native.Nat.{ℕ, _≤_, _<_}
 use native.Mathlib.Omega.{arith}
-use lib.ListN.{getD}
 use Rattle.strip.specs.Strip.{BothZero}
 use Rattle.line.specs.declared.Run.{Run}
 use Rattle.line.specs.Line.{Codeword}

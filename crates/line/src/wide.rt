@@ -2,7 +2,6 @@
 // room, so that it serves narrow blocks as well.
 use crate::Erasures;
 use crate::Run;
-ghost use mathlib.Core.Path.{_≡_};
 ghost use Prim.Native.Nat.{ℕ, _+_, _*_, _/_, _<_, _≤_, min};
 ghost use lib.ListN.{length};
 ghost use Rattle.line.specs.Line.{Codeword};

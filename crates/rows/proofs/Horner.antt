@@ -1,13 +1,11 @@
 -- The syndromes of 64 gathered lines: Horner's steps, from nothing to the whole lines.
 use mathlib.Core.Path.{_≡_, refl, sym, ap, _∙_}
 use mathlib.Core.List.{List}
-use Prim.Native.Nat.{ℕ, _+_, _*_, _≤_, _<_}
-use native.Mathlib.Omega.{arith}
+use Prim.Native.Nat.{ℕ, _+_, _*_, _<_}
 use lib.ListN.{length, getD, replicate, getD-replicate}
 use Rattle.field.specs.Field.{add, xtime}
 use Rattle.strip.specs.Strip.{Step, BothZero}
 use Rattle.line.specs.declared.Run.{Run}
-use Rattle.line.specs.Line.{Codeword}
 use Rattle.line.specs.Inner.Wide.{tail0, tail1}
 use Rattle.line.proofs.Syndrome.{tail0-end, tail1-end, tail0-whole, tail1-whole}
 use Rattle.line.proofs.Tails.{step0, step1}

@@ -1,14 +1,13 @@
 -- A run moved by so many bytes: which lines it has, and where they lie inside.
-use mathlib.Core.Path.{_≡_, refl, sym, ap, subst, fun-ext, _∙_}
+use mathlib.Core.Path.{_≡_, sym, ap, subst, fun-ext, _∙_}
 use mathlib.Core.List.{List}
 use Prim.Native.Nat.{ℕ, _+_, _-_, _*_, _≤_, _<_}
-use native.Mathlib.Nat.{mul-add, mul-le-mul-left, add-assoc, add-comm, add-left-comm}
+use native.Mathlib.Nat.{mul-add, mul-le-mul-left, add-assoc}
 use native.Mathlib.Decide.{decLt}
 use native.Mathlib.Omega.{arith}
 use lib.ListN.{length, getD}
 use Rattle.line.specs.declared.Run.{Run}
-use Rattle.line.specs.Line.{Codeword}
-use Rattle.line.specs.Run.{lineAt, Inside, AllCodewords}
+use Rattle.line.specs.Run.{lineAt, Inside}
 use Rattle.rows.specs.Rows.{behind, AllRows}
 use Rattle.rows.specs.Inner.{lane, Within, LanesRight, RowsRight}
 

@@ -1,14 +1,12 @@
 // Rows: runs of one form, each a fixed number of bytes behind the one before. Where they are narrow, 64 of them are gathered into strips.
 use line::Run;
 ghost use mathlib.Core.Path.{_≡_};
-ghost use Prim.Native.Nat.{ℕ, _+_, _*_, _-_, _^_, _<_, _≤_};
+ghost use Prim.Native.Nat.{_+_, _*_, _-_, _^_, _<_, _≤_};
 ghost use lib.ListN.{length};
 ghost use Rattle.span.specs.Decision.{Decides};
-ghost use Rattle.span.specs.Span.{Piece};
-ghost use Rattle.line.specs.Line.{Codeword};
-ghost use Rattle.line.specs.Run.{Inside, lineAt};
+ghost use Rattle.line.specs.Run.{Inside};
 ghost use Rattle.rows.specs.Rows.{behind, AllRows};
-ghost use Rattle.rows.specs.Inner.{lane, Within, Gathered, LanesRight, RowsRight};
+ghost use Rattle.rows.specs.Inner.{Within, Gathered, LanesRight, RowsRight};
 
 // Whether every line of `count` runs is a codeword: of `run`, and of each next one, `gap` bytes behind the one before.
 pub fn codewords(s: &[u8], reduction: u8, run: Run, gap: usize, count: usize) -> bool

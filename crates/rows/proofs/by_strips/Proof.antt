@@ -1,5 +1,5 @@
 -- `rows::by_strips` decides whether the lines of all rows are codewords, 64 rows at a time.
-use Prim.Native.Nat.{ℕ, _+_, _-_, _≤_, _<_}
+use Prim.Native.Nat.{_+_, _-_, _≤_}
 use native.Mathlib.Omega.{arith}
 use Rattle.span.proofs.Decision.{decides-no, decides-map, decides-refuted, decides-proved}
 use Rattle.rows.specs.Inner.{RowsRight}

@@ -1,7 +1,6 @@
 -- `rows::gathered` decides whether all rows are right: the last by itself, which shows that all lie inside, then strip by strip.
 use Prim.Native.Nat.{_-_}
 use native.Mathlib.Omega.{arith}
-use borrow.Author.Needs.{needs}
 use Rattle.span.proofs.Decision.{decides-no, decides-map, decides-refuted, decides-proved}
 use Rattle.rows.proofs.Moving.{rows-all, all-rows}
 use Rattle.rows.proofs.gathered.Statement.{statement}

@@ -1,5 +1,5 @@
 -- `rows::one_by_one` decides whether all rows are right, row after row.
-use Prim.Native.Nat.{ℕ, _-_, _≤_, _<_}
+use Prim.Native.Nat.{_-_, _≤_}
 use native.Mathlib.Omega.{arith}
 use borrow.Author.Count.{below-more}
 use Rattle.span.proofs.Decision.{decides-yes, decides-no, decides-refuted, decides-proved}

@@ -1,5 +1,4 @@
 -- `line::corrector::correct_block` corrects a block; where all lines are codewords there is nothing to do.
-use native.Mathlib.Omega.{arith}
 use Rattle.line.proofs.Correction.{corrected-codewords}
 use borrow.Author.Needs.{needs}
 use Rattle.line.proofs.corrector.correct_block.Statement.{statement}

@@ -3,7 +3,6 @@ use mathlib.Core.Path.{refl}
 use native.Mathlib.Omega.{arith}
 use Rattle.span.proofs.Decision.{decides-map}
 use Rattle.line.proofs.Zeros.{zeros-codewords, codewords-zeros, zeros-both, both-zeros}
-use borrow.Author.Needs.{needs}
 use Rattle.line.proofs.narrow.codewords_strip.Statement.{statement}
 use Rattle.line.proofs.narrow.codewords_strip.Tie as tie
 
