@@ -6,7 +6,7 @@ use mathlib.Core.List.{List}
 use mathlib.Core.Logic.{_≢_, _⊎_, inl, inr, ⊎-elim}
 use Prim.Native.Nat.{ℕ, zero, suc, _+_, _-_, _*_, _%_, _≤_, _<_, _/_}
 use native.Mathlib.Nat.{mul-one, one-mul, add-zero, zero-add, mod-one, div-eq-of-lt, zero-mul}
-use native.Mathlib.Decide.{ℕ-discrete}
+use native.Mathlib.Decide.{ℕ-discrete, decLt}
 use native.Mathlib.Omega.{arith}
 use lib.Dec.{leb}
 use lib.ListN.{getD, length, set, replicate, length-replicate, length-set}
@@ -184,10 +184,24 @@ quiet-keeps {sh} {fs} {ms} {gs} {ns} size falls kept =
 pub quiet-none : {ms : List ℕ} {axis g : ℕ} → AllQuiet ms axis g g
 quiet-none = record { each = λ h low high. absurd (omega arith) }
 
-pub quiet-more : {ms : List ℕ} {axis from g : ℕ} → AllQuiet ms axis from g → getD ms ((axis - 1) * 8192 + g) 0 ≡ 71 → AllQuiet ms axis from (g + 1)
+-- n groups more
+pub quiet-more : {ms : List ℕ} {axis from g : ℕ} (n : ℕ) → AllQuiet ms axis from g → ((i : ℕ) → i < n → getD ms ((axis - 1) * 8192 + g + i) 0 ≡ 71)
+    → AllQuiet ms axis from (g + n)
 unfolding markAt
-quiet-more {ms} {axis} {from} {g} a e =
+quiet-more {ms} {axis} {from} {g} n a e =
     record {
       each = λ h low high.
-          elim (ℕ-discrete h g) [ yes same ↦ rw same e | no ne ↦ a .each h low (omega arith) ];
+          elim (decLt h g) [
+            | yes l ↦ a .each h low l
+            | no m ↦
+                let same : (axis - 1) * 8192 + g + (h - g) ≡ (axis - 1) * 8192 + h = omega arith in
+                subst (λ (p : ℕ). getD ms p 0 ≡ 71) same (e (h - g) (omega arith))
+          ];
     }
+
+pub quiet-next : {ms : List ℕ} {axis from g : ℕ} → AllQuiet ms axis from g → getD ms ((axis - 1) * 8192 + g) 0 ≡ 71 → AllQuiet ms axis from (g + 1)
+quiet-next {ms} {axis} {from} {g} a e =
+    quiet-more 1 a
+    (λ i l.
+    let same : (axis - 1) * 8192 + g ≡ (axis - 1) * 8192 + g + i = omega arith in
+    subst (λ (p : ℕ). getD ms p 0 ≡ 71) same e)

@@ -2,7 +2,8 @@
 // their last visit: a stretch of the group, from one line to another. An axis has at most 65,025 lines, so that 8,192 marks an axis are enough.
 use shape::Shape;
 ghost use mathlib.Core.Path.{_≡_};
-ghost use Prim.Native.Nat.{_*_, _/_, _%_, _≤_, _<_, min};
+ghost use mathlib.Core.Bool.{true};
+ghost use Prim.Native.Nat.{ℕ, _+_, _*_, _/_, _%_, _≤_, _<_, min};
 ghost use lib.ListN.{length, getD, set};
 ghost use Rattle.shape.specs.Shapes.{Valid, cells, linesOf};
 ghost use Rattle.peel.specs.Inner.Steps.{stretched, Woken, AllQuiet};
@@ -31,11 +32,38 @@ pub(crate) fn next_awake(marks: &[u8; 24576], axis: usize, from: usize, groups: 
     ensures { λ r. ⌜ (from ≤ r) × (r ≤ groups) × AllQuiet (now (marks .entry)) axis from r ⌝ }
 {
     let base = (axis - 1) * 8192;
-    let mut g = from;
+    let mut g = past_quiet(marks, axis, from, groups);
     while g < groups && marks[base + g] == QUIET {
         g += 1;
     }
     g
+}
+
+// The same where 32 groups at a time are passed over: in a sweep that fills little nearly all are quiet.
+fn past_quiet(marks: &[u8; 24576], axis: usize, from: usize, groups: usize) -> usize
+    requires { ⌜ (1 ≤ axis) × (axis ≤ 3) × (from ≤ groups) × (groups ≤ 8192) × (length (now marks) ≡ 24576) ⌝ }
+    ensures { λ r. ⌜ (from ≤ r) × (r ≤ groups) × AllQuiet (now (marks .entry)) axis from r ⌝ }
+{
+    let base = (axis - 1) * 8192;
+    let mut g = from;
+    while g + 32 <= groups && all_quiet(marks, base + g) {
+        g += 32;
+    }
+    g
+}
+
+// Whether the 32 marks from a place on are those of quiet groups. They are joined by or: without an early exit they are tested at once.
+fn all_quiet(marks: &[u8; 24576], at: usize) -> bool
+    requires { ⌜ (at + 32 ≤ 24576) × (length (now marks) ≡ 24576) ⌝ }
+    ensures { λ r. ⌜ (r ≡ true → (i : ℕ) → i < 32 → getD (now (marks .entry)) (at + i) 0 ≡ 71) ⌝ }
+{
+    let mut any: u8 = 0;
+    let mut i = 0;
+    while i < 32 {
+        any = any | (marks[at + i] ^ QUIET);
+        i += 1;
+    }
+    any == 0
 }
 
 // Wakes the three lines through a cell.

@@ -1,9 +1,10 @@
--- `peel::wake::next_awake` passes over groups that are quiet.
+-- `peel::wake::next_awake` passes over groups that are quiet, many at a time and then one by one.
 use Prim.Native.Nat.{_-_, _≤_}
 use native.Mathlib.Omega.{arith}
+use borrow.Author.Needs.{needs}
 use borrow.Author.Tests.{eqb-true}
 use Rattle.peel.specs.Inner.Steps.{AllQuiet}
-use Rattle.peel.proofs.Awake.{quiet-none, quiet-more}
+use Rattle.peel.proofs.Awake.{quiet-next}
 use Rattle.peel.proofs.wake.next_awake.Statement.{statement}
 use Rattle.peel.proofs.wake.next_awake.Tie as tie
 
@@ -19,8 +20,11 @@ sub-base c = omega arith
 mul-base : tie.Need-mul-base Inv-loop μ-loop
 mul-base c = omega arith
 
+past-quiet-requires : tie.Need-past-quiet-requires Inv-loop μ-loop
+past-quiet-requires c κs = search needs
+
 loop-holds : tie.Need-loop-holds Inv-loop μ-loop
-loop-holds c = (omega arith, omega arith, quiet-none)
+loop-holds c = c .past-quiet .ensures
 
 add-if1 : tie.Need-add-if1 Inv-loop μ-loop
 add-if1 c = omega arith
@@ -35,7 +39,7 @@ loop-less : tie.Need-loop-less Inv-loop μ-loop
 loop-less c = omega arith
 
 loop-again : tie.Need-loop-again Inv-loop μ-loop
-loop-again c = (omega arith, omega arith, quiet-more (c .before .before .before .loop .inv .2) (eqb-true _ _ (c .if1 .taken)))
+loop-again c = (omega arith, omega arith, quiet-next (c .before .before .before .loop .inv .2) (eqb-true _ _ (c .if1 .taken)))
 
 returns : tie.Need-returns Inv-loop μ-loop
 returns c = c .before .before .before .loop .inv
@@ -51,6 +55,7 @@ next-awake-spec =
     μ-loop
     sub-base
     mul-base
+    past-quiet-requires
     loop-holds
     add-if1
     element-copy-out-if1
