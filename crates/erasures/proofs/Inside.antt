@@ -14,7 +14,7 @@ use Rattle.shape.proofs.Geometry.{line-cell-lt, line-stride-high, line-length-l
 use Rattle.erasures.specs.Erasures.{Places}
 
 -- the last place decides
-places-last : (fs : List ℕ) (first stride len : ℕ) → 1 ≤ len → len ≤ 255 → stride ≤ 65025 → first + stride * (len - 1) < length fs → Places fs first stride len
+pub places-last : (fs : List ℕ) (first stride len : ℕ) → 1 ≤ len → len ≤ 255 → stride ≤ 65025 → first + stride * (len - 1) < length fs → Places fs first stride len
 places-last fs first stride len some few near last =
     record {
       some = some;

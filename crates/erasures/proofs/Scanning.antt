@@ -4,10 +4,10 @@ use mathlib.Core.Bool.{Bool, true, false}
 use mathlib.Core.Logic.{_≢_}
 use Prim.Native.Nat.{ℕ, _+_, _*_, _≤_, _<_}
 use native.Mathlib.Numerals.{add-one}
-use native.Mathlib.Decide.{ℕ-discrete}
+use native.Mathlib.Decide.{ℕ-discrete, decLt}
 use native.Mathlib.Omega.{arith}
 use Rattle.stopping.specs.Stopping.{number, onLine}
-use Rattle.stopping.proofs.Number.{number-nil, number-in, number-out, number-inc, number-zero}
+use Rattle.stopping.proofs.Number.{number-nil, number-in, number-out, number-inc, number-zero, rank-lt, rank-injective}
 use Rattle.erasures.specs.Erasures.{Scanned}
 
 module _ (M : ℕ → Bool) (start stride : ℕ) where
@@ -31,16 +31,69 @@ module _ (M : ℕ → Bool) (start stride : ℕ) where
   unfolding onLine
   line-longer n len le = number-inc (λ i. M (start + stride * i)) n len le
 
+  line-rank : (i j : ℕ) → M (start + stride * i) ≡ true → i < j → onLine M start stride i < onLine M start stride j
+  unfolding onLine
+  line-rank i j e l = rank-lt (λ k. M (start + stride * k)) i j l e
+
+  line-place : (i j : ℕ) → M (start + stride * i) ≡ true → M (start + stride * j) ≡ true → onLine M start stride i ≡ onLine M start stride j → i ≡ j
+  unfolding onLine
+  line-place = rank-injective (λ k. M (start + stride * k))
+
+  -- ---- what follows of what was found
+
+  module _ (len count first last : ℕ) (s : Scanned M start stride len count first last) where
+    pub scanned-order : 1 ≤ count → first ≤ last
+    scanned-order some =
+        elim (decLt last first) [
+          | yes l ↦ absurd (omega (arith, line-rank last first (s .at-last some) l, s .before some))
+          | no n ↦ omega arith
+        ]
+
+    pub scanned-one : count ≡ 1 → first ≡ last
+    scanned-one one =
+        let some : 1 ≤ count = omega arith in
+        line-place first last (s .at-first some) (s .at-last some) (omega (arith, s .before some, s .rank some))
+
+    pub scanned-two : count ≡ 2 → first < last
+    scanned-two two =
+        let some : 1 ≤ count = omega arith in
+        elim (decLt first last) [
+          | yes l ↦ l
+          | no n ↦
+              let same : first ≡ last = omega (arith, scanned-order some) in
+              absurd (omega (arith, ap (onLine M start stride) same, s .before some, s .rank some))
+        ]
+
+    -- what is found on a line is determined
+    pub scanned-determined : (count′ first′ last′ : ℕ) → Scanned M start stride len count′ first′ last′ → (count ≡ count′) × (first ≡ first′) × (last ≡ last′)
+    scanned-determined count′ first′ last′ t =
+        let same : count ≡ count′ = s .number ∙ sym (t .number) in
+        elim (ℕ-discrete count 0) [
+          | yes z ↦
+              let some = s .none z in
+              let other = t .none (sym same ∙ z) in
+              (same, some .0 ∙ sym (other .0), some .1 ∙ sym (other .1))
+          | no nz ↦
+              let some : 1 ≤ count = omega arith in
+              let other : 1 ≤ count′ = omega arith in (
+                same,
+                line-place first first′ (s .at-first some) (t .at-first other) (s .before some ∙ sym (t .before other)),
+                line-place last last′ (s .at-last some) (t .at-last other) (omega (arith, s .rank some, t .rank other)),
+              )
+        ]
+
+  -- ---- place after place
+
   pub scanned-none : Scanned M start stride 0 0 0 0
   scanned-none =
       record {
         number = omega (arith, line-nil);
-        order = λ l. omega arith;
+        none = λ e. (refl, refl);
         bound = λ l. omega arith;
-        one = λ e. refl;
-        two = λ e. omega arith;
         at-first = λ l. absurd (omega arith);
+        before = λ l. line-nil;
         at-last = λ l. absurd (omega arith);
+        rank = λ l. absurd (omega arith);
         others = λ l i m. absurd (omega arith);
       }
 
@@ -49,12 +102,12 @@ module _ (M : ℕ → Bool) (start stride : ℕ) where
   scanned-skip n count first last s e =
       record {
         number = omega (arith, s .number, line-out n e);
-        order = s .order;
+        none = s .none;
         bound = λ l. omega (arith, s .bound l);
-        one = s .one;
-        two = s .two;
         at-first = s .at-first;
+        before = s .before;
         at-last = s .at-last;
+        rank = s .rank;
         others = λ l i m a b.
             elim (ℕ-discrete i n) [ yes g ↦ ap (λ (k : ℕ). M (start + stride * k)) g ∙ e | no d ↦ s .others l i (omega arith) a b ];
       }
@@ -65,12 +118,12 @@ module _ (M : ℕ → Bool) (start stride : ℕ) where
   scanned-first n count first last s e z =
       record {
         number = omega (arith, s .number, line-in n e);
-        order = λ l. omega arith;
+        none = λ f. absurd (omega arith);
         bound = λ l. omega arith;
-        one = λ f. refl;
-        two = λ f. absurd (omega arith);
         at-first = λ l. e;
+        before = λ l. omega (arith, s .number);
         at-last = λ l. e;
+        rank = λ l. omega (arith, s .number);
         others = λ l i m a b. line-empty n (omega (arith, s .number)) i (omega arith);
       }
 
@@ -80,14 +133,14 @@ module _ (M : ℕ → Bool) (start stride : ℕ) where
       let some : 1 ≤ count = omega arith in
       record {
         number = omega (arith, s .number, line-in n e);
-        order = λ l. omega (arith, s .order some, s .bound some);
+        none = λ f. absurd (omega arith);
         bound = λ l. omega arith;
-        one = λ f. absurd (omega arith);
-        two = λ f. omega (arith, s .order some, s .bound some);
         at-first = λ l. s .at-first some;
+        before = λ l. s .before some;
         at-last = λ l. e;
+        rank = λ l. omega (arith, s .number);
         others = λ l i m a b.
-            let same : first ≡ last = s .one (omega arith) in
+            let same : first ≡ last = scanned-one n count first last s (omega arith) in
             s .others (omega arith) i (omega arith) a (λ g. a (g ∙ sym same));
       }
 
@@ -96,11 +149,11 @@ module _ (M : ℕ → Bool) (start stride : ℕ) where
   scanned-three n len count first last s three le =
       record {
         number = omega (arith, s .number, line-longer n len le);
-        order = s .order;
+        none = s .none;
         bound = λ l. omega (arith, s .bound l);
-        one = s .one;
-        two = s .two;
         at-first = s .at-first;
+        before = s .before;
         at-last = s .at-last;
+        rank = s .rank;
         others = λ l. absurd (omega arith);
       }

@@ -16,15 +16,16 @@ pub record Places (fs : List ℕ) (first stride len : ℕ) : Type 0 where
   pub near : stride ≤ 65025
   pub within : (i : ℕ) → i < len → first + stride * i < length fs
 
--- The cells of M on a line: how many, at most three, and where they are one or two, which. Then `first` and `last` are the places, the same for one.
+-- The cells of M on a line: how many, at most three; `first` is the place of the first of them, and `last` that of the last that is counted. With
+-- none both are 0. Where there are one or two, no other place has one.
 pub record Scanned (M : ℕ → Bool) (start stride len count first last : ℕ) : Type 0 where
   pub number : count ≡ min 3 (onLine M start stride len)
-  pub order : 1 ≤ count → first ≤ last
+  pub none : count ≡ 0 → (first ≡ 0) × (last ≡ 0)
   pub bound : 1 ≤ count → last < len
-  pub one : count ≡ 1 → first ≡ last
-  pub two : count ≡ 2 → first < last
   pub at-first : 1 ≤ count → M (start + stride * first) ≡ true
+  pub before : 1 ≤ count → onLine M start stride first ≡ 0
   pub at-last : 1 ≤ count → M (start + stride * last) ≡ true
+  pub rank : 1 ≤ count → onLine M start stride last + 1 ≡ count
   pub others : count ≤ 2 → (i : ℕ) → i < len → i ≢ first → i ≢ last → M (start + stride * i) ≡ false
 
 -- what `scan` answers: the missing cells of a line that is looked at, and nothing found on any other

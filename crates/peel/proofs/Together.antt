@@ -28,6 +28,7 @@ use Rattle.stopping.proofs.Number.{number-cong, number-all, number-none, number
 use Rattle.stopping.proofs.Stopping.{onLine-none, peel}
 use Rattle.stopping.proofs.Cube.{cube-fits}
 use Rattle.shape.specs.Flags.{missing}
+use Rattle.erasures.proofs.Scanning.{scanned-order, scanned-one, scanned-two}
 use Rattle.peel.specs.Peel.{Sized}
 use Rattle.peel.specs.Peel.{Stops, Agrees, CodeOff, Reaches}
 use Rattle.peel.specs.Inner.Steps.{Filled, Neighbours, Alike, Hole, earlier, later, Flagged, AllStop, runOf}
@@ -117,7 +118,7 @@ beside-off sh first stride len n i m t b =
 module _ (sh : Shape) (xs fs ms gs ns : List ℕ) (z : Sized sh xs fs) (first stride len n count j k : ℕ) (l : Neighbours sh first stride len n)
     (s : Alike (missing fs) first stride len n count j k) (d : Flagged sh first stride n j k fs ms gs ns) where
   ordered : j ≤ k
-  ordered = s .each 0 (l .some) .order (s .some)
+  ordered = scanned-order _ _ _ _ _ _ _ (s .each 0 (l .some)) (s .some)
 
   k-lt : k < len
   k-lt = s .each 0 (l .some) .bound (s .some)
@@ -169,7 +170,7 @@ module _ (sh : Shape) (xs fs ms gs ns : List ℕ) (z : Sized sh xs fs) (first st
     where
       single : count ≡ 1 → number (missing fs) (cells sh) ≡ number (missing gs) (cells sh) + count * n
       single one =
-          let same : j ≡ k = s .each 0 (l .some) .one one in
+          let same : j ≡ k = scanned-one _ _ _ _ _ _ _ (s .each 0 (l .some)) one in
           number-block (missing fs) (missing gs) (cells sh) (first + stride * j) n (omega (arith, last-cell, ap (λ (i : ℕ). stride * i) same))
           (λ m low high. was-missing m (at-earlier m low high)) (λ m low high. not-left m (at-earlier m low high))
           (λ m b. sym (kept-flag m (beside-no-hole first stride n j k m b (subst (λ (i : ℕ). Beside first stride n i m) same b))))
@@ -177,7 +178,7 @@ module _ (sh : Shape) (xs fs ms gs ns : List ℕ) (z : Sized sh xs fs) (first st
 
       pair : count ≡ 2 → number (missing fs) (cells sh) ≡ number (missing gs) (cells sh) + count * n
       pair two =
-          let less : j < k = s .each 0 (l .some) .two two in
+          let less : j < k = scanned-two _ _ _ _ _ _ _ (s .each 0 (l .some)) two in
           let apart : first + stride * j + n ≤ first + stride * k =
           omega (arith, l .apart, mul-suc stride j, mul-le-mul-left stride less) in
           let split = first + stride * j + n in

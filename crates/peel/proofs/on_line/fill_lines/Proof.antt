@@ -11,6 +11,7 @@ use Rattle.erasures.specs.Erasures.{Scanned}
 use Rattle.erasures.proofs.Inside.{line-places}
 use Rattle.field.specs.Field.{reduction}
 use Rattle.field.proofs.Primitive.{primitive}
+use Rattle.erasures.proofs.Scanning.{scanned-order}
 use Rattle.peel.specs.Inner.Steps.{Neighbours, Filled, AllStop}
 use Rattle.peel.proofs.Lines.{neighbours-first, neighbours-fewer}
 use Rattle.peel.proofs.Reaching.{filled-le}
@@ -64,13 +65,13 @@ alike-requires c κs = (
 recover-requires : tie.Need-recover-requires
 recover-requires c κs = (
   (c .before .before .before .before .before .before .before .before .before .pre .0 .valid, c .before .before .before .before .before .before .before .before .before .pre .0 .bytes),
-  (beside (c .before), (scanned (c .before .before .before .before .before) .order (some (c .before .before .before)), scanned (c .before .before .before .before .before) .bound (some (c .before .before .before)))),
+  (beside (c .before), (scanned-order _ _ _ _ _ _ _ (scanned (c .before .before .before .before .before)) (some (c .before .before .before)), scanned (c .before .before .before .before .before) .bound (some (c .before .before .before)))),
 )
 
 flag-holes-requires : tie.Need-flag-holes-requires
 flag-holes-requires c κs = (
   (c .before .before .before .before .before .before .before .before .before .before .before .before .before .before .pre .0 .valid, c .before .before .before .before .before .before .before .before .before .before .before .before .before .before .pre .0 .flags, c .before .before .before .before .before .before .before .before .before .before .before .before .before .before .pre .1 .1),
-  (beside (c .before .before .before .before .before .before), (scanned (c .before .before .before .before .before .before .before .before .before .before) .order (some (c .before .before .before .before .before .before .before .before)), scanned (c .before .before .before .before .before .before .before .before .before .before) .bound (some (c .before .before .before .before .before .before .before .before)))),
+  (beside (c .before .before .before .before .before .before), (scanned-order _ _ _ _ _ _ _ (scanned (c .before .before .before .before .before .before .before .before .before .before)) (some (c .before .before .before .before .before .before .before .before)), scanned (c .before .before .before .before .before .before .before .before .before .before) .bound (some (c .before .before .before .before .before .before .before .before)))),
 )
 
 mul-t22 : tie.Need-mul-t22
