@@ -35,38 +35,56 @@ const W_64: Shape = Shape::new(128, 64, 90, 64);
 const CALLS: [Call; 6] = [ENCODE, CHECK, FILL, MEND, RECEIVE, WRITE];
 
 /// Each turn takes every shape, so that a machine that is slow for some seconds is not slow for one of them.
-const TURNS: usize = 4;
+const TURNS: usize = 5;
 
 /// The rounds of a turn. Fewer than for the reference set: one takes up to a second.
-const ROUNDS: usize = 5;
+const ROUNDS: usize = 4;
 
-/// The least times of one shape.
+/// The least times of one shape in one turn.
 struct Column {
     shape: Shape,
     memcpy: Duration,
     rows: Vec<(&'static str, Duration)>,
 }
 
+/// The columns of one turn. Ratios are taken within a turn, and of all turns the one in the middle counts.
+type Turn = Vec<Column>;
+
 /// Prints the table, and gives the bars that it is held to.
 pub fn table() -> Result<Vec<Bar>, Error> {
     println!(
         "\
-Every call on large cubes: milliseconds, and over memcpy of the cube; minimum of {TURNS} turns of {ROUNDS} rounds, each turn with all shapes.
+Every call on large cubes, in {TURNS} turns of {ROUNDS} rounds, each turn with all shapes: milliseconds, the least of all; and over memcpy of the
+cube, where least times are divided turn by turn, and the median is printed.
 Everything that is lost comes back; at random, four cells of a longest line on average: 1.6 to 9.3 % of the cells.
 "
     );
-    let mut columns = one_turn()?;
-    for _ in 1..TURNS {
-        for (column, again) in columns.iter_mut().zip(one_turn()?) {
-            column.keep_least(&again);
-        }
-    }
-    print_columns(&columns);
-    Ok(bars(&columns))
+    let turns: Vec<Turn> = (0..TURNS).map(|_| one_turn()).collect::<Result<_, _>>()?;
+    print_columns(&turns);
+    Ok(bars(&turns))
 }
 
-fn one_turn() -> Result<Vec<Column>, Error> {
+fn one_turn() -> Result<Turn, Error> {
     SHAPES.into_iter().map(Column::measure).collect()
+}
+
+/// The least that the turns give.
+fn least(turns: &[Turn], time: impl Fn(&Turn) -> Duration) -> f64 {
+    let least = turns.iter().map(time).min();
+    milliseconds(least.expect("there is a turn"))
+}
+
+/// The median of what the turns give.
+fn median(turns: &[Turn], ratio: impl Fn(&Turn) -> f64) -> f64 {
+    let mut ratios: Vec<f64> = turns.iter().map(ratio).collect();
+    ratios.sort_by(f64::total_cmp);
+    ratios[ratios.len() / 2]
+}
+
+/// The column of a shape.
+fn column(turn: &Turn, of: Shape) -> &Column {
+    let column = turn.iter().find(|column| column.shape == of);
+    column.expect("a shape of the table")
 }
 
 impl Column {
@@ -93,13 +111,6 @@ impl Column {
         })
     }
 
-    fn keep_least(&mut self, again: &Column) {
-        self.memcpy = self.memcpy.min(again.memcpy);
-        for ((_, least), (_, time)) in self.rows.iter_mut().zip(&again.rows) {
-            *least = (*least).min(*time);
-        }
-    }
-
     fn time(&self, what: &str) -> Duration {
         let row = self.rows.iter().find(|(name, _)| *name == what);
         row.expect("a row of the table").1
@@ -110,47 +121,45 @@ impl Column {
     }
 }
 
-fn print_columns(columns: &[Column]) {
-    let print_line = |name: &str, entry: &dyn Fn(&Column) -> String| {
-        let entries: Vec<String> = columns.iter().map(entry).collect();
+fn print_columns(turns: &[Turn]) {
+    let print_line = |name: &str, entry: &dyn Fn(Shape) -> String| {
+        let entries: Vec<String> = SHAPES.into_iter().map(entry).collect();
         println!("| {name} | {} |", entries.join(" | "));
     };
-    print_line("call", &|column| {
-        let Shape { l1, l2, l3, w } = column.shape;
+    print_line("call", &|Shape { l1, l2, l3, w }| {
         format!("{l1} × {l2} × {l3}, W {w}")
     });
     print_line("---", &|_| "---".into());
-    print_line("memcpy", &|column| {
-        format!("{:.2} ms", milliseconds(column.memcpy))
+    print_line("memcpy", &|of| {
+        format!("{:.2} ms", least(turns, |turn| column(turn, of).memcpy))
     });
-    for (what, _) in &columns[0].rows {
-        print_line(what, &|column| {
-            let time = milliseconds(column.time(what));
-            format!("{time:.2} ms, {:.2}", column.over_memcpy(what))
+    for (what, _) in &turns[0][0].rows {
+        print_line(what, &|of| {
+            let time = least(turns, |turn| column(turn, of).time(what));
+            let ratio = median(turns, |turn| column(turn, of).over_memcpy(what));
+            format!("{time:.2} ms, {ratio:.2}")
         });
     }
 }
 
 /// The narrowest cells against memcpy, and a byte of a cell of 63 against one of 64.
-fn bars(columns: &[Column]) -> Vec<Bar> {
-    let column = |of: Shape| {
-        let column = columns.iter().find(|column| column.shape == of);
-        column.expect("a shape of the table")
-    };
+fn bars(turns: &[Turn]) -> Vec<Bar> {
     let mut bars = Vec::new();
     for (call, most) in [(CHECK, 12.0), (RECEIVE, 45.0)] {
         bars.push(Bar {
             what: format!("255 cubed, W 1: {}, over memcpy", call.name),
-            measured: column(W_1).over_memcpy(call.name),
+            measured: median(turns, |turn| column(turn, W_1).over_memcpy(call.name)),
             most,
         });
     }
-    let [narrow, wide] = [W_63, W_64].map(column);
-    for &(what, time) in &narrow.rows {
-        let bytes = wide.shape.w as f64 / narrow.shape.w as f64;
+    let bytes = W_64.w as f64 / W_63.w as f64;
+    for (what, _) in &turns[0][0].rows {
         bars.push(Bar {
             what: format!("a byte of W 63 over one of W 64: {what}"),
-            measured: over(time, wide.time(what)) * bytes,
+            measured: median(turns, |turn| {
+                let [narrow, wide] = [W_63, W_64].map(|of| column(turn, of).time(what));
+                over(narrow, wide) * bytes
+            }),
             most: 1.1,
         });
     }
