@@ -16,8 +16,7 @@ use Rattle.fill.specs.Fill.{flagsChecked}
 use Rattle.mend.specs.Mend.{axisChecked, mendChecked, wholeChecked}
 use Rattle.pack.specs.Packs.{airSize, packSize}
 use Rattle.pack.specs.Reading.{headerOf, jobOf, airOf}
-use Rattle.pack.specs.Sizes.{sizeChecked, airSizeChecked}
-use Rattle.pack_writer.specs.Writing.{startChecked, airChecked}
+use Rattle.pack.specs.Writing.{sizeChecked, airSizeChecked, startChecked, airChecked}
 use Rattle.pack.proofs.Numbers.{shape-fails, header-fails, job-fails, air-fails}
 use Rattle.writer.specs.Write.{writeChecked}
 use Rattle.receiver.specs.Receive.{Memory, receiveChecked}

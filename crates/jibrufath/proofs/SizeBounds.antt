@@ -13,7 +13,7 @@ use Rattle.shape.proofs.Valid.{shape-passed, data-length-le, volume-le, bytes-l
 use Rattle.pack.specs.declared.PackSize.{PackSize}
 use Rattle.pack.specs.declared.PackSize.the-variants.{Bytes, Refused}
 use Rattle.pack.specs.Packs.{airSize, packSize}
-use Rattle.pack.specs.Sizes.{sizeChecked, sizeValue}
+use Rattle.pack.specs.Writing.{sizeChecked, sizeValue}
 
 pub record Bounded (z : Sizes) : Type 0 where
   pub cells-le : z .cells ≤ 16581375

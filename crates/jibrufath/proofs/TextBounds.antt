@@ -13,9 +13,9 @@ use Rattle.pack.specs.declared.PackSize.{PackSize}
 use Rattle.pack.specs.declared.PackSize.the-variants.{Bytes}
 use Rattle.pack.specs.Packs.{airSize}
 use Rattle.pack.specs.Reading.{airOf}
-use Rattle.pack.specs.Sizes.{sizeValue, airSizeChecked}
+use Rattle.pack.specs.Writing.{sizeValue, airSizeChecked}
 use Rattle.pack.proofs.Sound.{air-sound, packets-le}
-use Rattle.pack.proofs.Sizing.{air-size-passed}
+use Rattle.pack.proofs.Starting.{air-size-passed}
 use Rattle.text.specs.Form.{Broken, first-broken, packet-broken}
 use Rattle.text.specs.Text.{textIn, writeTextChecked, textSizeChecked, WriteTextOutcome, write-refused, write-outside, write-done, ReadTextOutcome, read-broken, read-refused, read-outside, read-done, PackSizeOutcome, size-broken, size-checked}
 use Rattle.text_writer.proofs.TextLines.{text-le}

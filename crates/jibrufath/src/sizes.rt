@@ -5,7 +5,7 @@ use shape::Shape;
 ghost use mathlib.Core.Path.{_≡_};
 ghost use Rattle.answer.specs.Values.{checked};
 ghost use Rattle.shape.specs.Shapes.{shapeChecked};
-ghost use Rattle.pack.specs.Sizes.{sizeChecked};
+ghost use Rattle.pack.specs.Writing.{sizeChecked};
 ghost use Rattle.jibrufath.specs.Exports.{shape, packed};
 ghost use Rattle.jibrufath.specs.Inner.Sizes.{SizesPacked};
 

@@ -4,7 +4,7 @@ use pack::PackSize;
 ghost use mathlib.Core.Path.{_≡_};
 ghost use Prim.Native.Nat.{_<_, _^_};
 ghost use Rattle.answer.specs.Values.{answerValue, checked};
-ghost use Rattle.pack.specs.Sizes.{sizeValue};
+ghost use Rattle.pack.specs.Writing.{sizeValue};
 ghost use Rattle.text.specs.Text.{WriteTextOutcome, ReadTextOutcome, PackSizeOutcome, textSizeChecked};
 ghost use Rattle.jibrufath.specs.Exports.{Exported, uncounted, whole, beside, packed};
 

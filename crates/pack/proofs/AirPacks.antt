@@ -13,36 +13,30 @@ use borrow.Author.Tests.{eqb-true}
 use Rattle.answer.specs.Values.{passes}
 use Rattle.answer.proofs.Values.{passes-injective, check-passed, then-passed}
 use Rattle.shape.specs.declared.Shape.{Shape}
-use Rattle.shape.specs.Shapes.{Valid, cells, capacity, sizes, shapeChecked}
+use Rattle.shape.specs.Shapes.{Valid, capacity, sizes, shapeChecked}
 use Rattle.span.proofs.Stretches.{stretch-end}
 use Rattle.cursor.specs.declared.Cursor.{Cursor}
 use Rattle.pack.specs.declared.Section.{Section}
 use Rattle.pack.specs.declared.Header.{Header}
 use Rattle.cursor.specs.Steps.{word}
-use Rattle.pack.specs.Packs.{wordBytes, shapeBytes, Packet, packetBytes, packets, airPack, airHead, upFrom, everyPacket, airSize, packSize}
+use Rattle.pack.specs.Packs.{wordBytes, shapeBytes, Packet, packetBytes, packets, airPack, airHead, upFrom, airSize}
 use Rattle.pack.specs.Reading.{shapeAt, headerFor, headed, headerOf, packetSize, airBehind, airOf}
 use Rattle.pack.specs.Packets.{packetAt, packetIn, packetsIn, packetNo, Named, Stands}
 use Rattle.pack.proofs.Sound.{count-passed, bytes-passed, end-passed, air-sound}
 use Rattle.pack.proofs.Naming.{air-named}
-use Rattle.pack.proofs.Written.{Sized, Carries, air-read, airPack-length, getD-inside, upFrom-length, upFrom-at, firstPackets-bytes}
+use Rattle.pack.proofs.Written.{Sized, Carries, air-read, airPack-length, getD-inside, upFrom-length, upFrom-at}
 use Rattle.pack.proofs.Standing.{packet-standing}
 use Rattle.pack.proofs.DataStrings.{word-bytes, append-bytes, word-small}
 
 -- ---- what stands before the packets
 
--- it is as long for every count, and so many packets stand behind it
-pub airHead-length : (sh : Shape) (m n : ℕ) → length (airHead sh m) + n * (3 + sh .w) ≡ airSize sh n
-unfolding airHead wordBytes shapeBytes airSize
-airHead-length sh m n = refl
+pub airHead-length : (sh : Shape) (n : ℕ) → length (airHead sh n) ≡ 17
+unfolding airHead wordBytes shapeBytes
+airHead-length sh n = refl
 
 pub air-length : (sh : Shape) (ps : List Packet) → Sized (sh .w) ps → length (airPack sh ps) ≡ airSize sh (length ps)
 unfolding airSize
 air-length sh ps all = airPack-length sh ps all
-
--- with the packets of every cell it makes up the written pack
-pub pack-parts : (sh : Shape) (xs : List ℕ) (m : ℕ) → length xs ≡ sh .w * cells sh → length (airHead sh m) + length (packets (everyPacket sh xs)) ≡ packSize sh
-unfolding packSize everyPacket
-pack-parts sh xs m size = ap (λ (k : ℕ). length (airHead sh m) + k) (firstPackets-bytes sh xs size (cells sh) (omega arith)) ∙ airHead-length sh m (cells sh)
 
 -- ---- the packets that stand in a section
 

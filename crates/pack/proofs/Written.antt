@@ -355,23 +355,6 @@ module _ (sh : Shape) (xs : List ℕ) where
     unfolding everyPacket
     everyPacket-sized = firstPackets-sized (cells sh) (omega arith)
 
-    pub firstPackets-bytes : (n : ℕ) → n ≤ cells sh → length (packets (firstPackets sh xs n)) ≡ n * (3 + sh .w)
-    firstPackets-bytes n few =
-        packets-length (sh .w) (firstPackets sh xs n) (firstPackets-sized n few) ∙ ap (λ (k : ℕ). k * (3 + sh .w)) (firstPackets-length n)
-
-    -- behind the packets of the cells before it there is room for a cell's own
-    pub firstPackets-room : (n : ℕ) → n < cells sh
-        → length (packets (firstPackets sh xs n)) + length (packetBytes (packetOf sh xs n)) ≤ length (packets (everyPacket sh xs))
-    unfolding packetBytes everyPacket
-    firstPackets-room n h =
-        omega (
-          arith,
-          firstPackets-bytes n (omega arith),
-          firstPackets-bytes (cells sh) (omega arith),
-          packetOf-length n h,
-          stretch-end n (cells sh) (3 + sh .w) h,
-        )
-
 -- what stands before the packets, and the packets
 pub air-laid : (sh : Shape) (ps : List Packet) → airPack sh ps ≡ airHead sh (length ps) ++ packets ps
 unfolding airPack airHead

@@ -2,5 +2,5 @@
 pub mod Packs
 pub mod Reading
 pub mod Packets
-pub mod Sizes
+pub mod Writing
 pub mod Inner

@@ -1,8 +1,12 @@
-// Packs: three sections, each read from the byte where the one before ended. Nobody else knows where a byte of a pack stands.
+// Packs: three sections, each read and written from the byte where the one before ended. Nobody else knows where a byte of a pack stands.
+mod air;
 mod packets;
 mod reading;
-mod sizes;
+mod writing;
 
+pub use air::air_bytes;
+pub use air::start_air;
+pub use air::write_coordinates;
 use answer::Refusal;
 use cursor::Cursor;
 pub use packets::first_outside;
@@ -13,8 +17,9 @@ pub use reading::read_header;
 pub use reading::read_job;
 use shape::Shape;
 use shape::Sizes;
-pub use sizes::air_bytes;
-pub use sizes::pack_bytes;
+pub use writing::pack_bytes;
+pub use writing::write_air;
+pub use writing::write_data;
 
 // A section: its first byte behind its count, and the count.
 pub struct Section {
@@ -55,6 +60,12 @@ pub enum PacketRead {
 pub enum PartsRead {
     Parts(u8, u8, u8, usize),
     Absent,
+}
+
+// The cursor behind what stands before the packets of an air pack.
+pub enum AirStart {
+    Started(Cursor),
+    Refused(Refusal),
 }
 
 // The bytes of a pack with every cell, or with so many packets.

@@ -11,8 +11,7 @@ use Rattle.pack.specs.declared.Section.{Section}
 use Rattle.pack.specs.Packs.{Packet, airPack}
 use Rattle.pack.specs.Reading.{airOf}
 use Rattle.pack.specs.Packets.{packetsIn, packetNo, FirstOutside}
-use Rattle.pack.specs.Sizes.{airSizeChecked}
-use Rattle.pack_writer.specs.Writing.{startChecked}
+use Rattle.pack.specs.Writing.{airSizeChecked, startChecked}
 use Rattle.text.specs.Form.{textOf, InForm, Broken}
 
 -- ---- from a pack to its text

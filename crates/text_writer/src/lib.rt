@@ -16,7 +16,7 @@ ghost use Rattle.answer.specs.Values.{answerValue, checked, passes};
 ghost use Rattle.shape.specs.Shapes.{Valid};
 ghost use Rattle.pack.specs.Reading.{airOf};
 ghost use Rattle.pack.specs.Packets.{packetIn, packetsIn};
-ghost use Rattle.pack.specs.Sizes.{sizeValue};
+ghost use Rattle.pack.specs.Writing.{sizeValue};
 ghost use Rattle.printing.specs.Text.{decimal};
 ghost use Rattle.printing.specs.Append.{Appended};
 ghost use Rattle.text.specs.Form.{hexBytes, packetLine, packetLines, firstLine};

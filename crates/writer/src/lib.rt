@@ -30,7 +30,7 @@ pub fn write_pack(job: &[u8], cube: &mut [u8], output: &mut [u8]) -> Answer
             lay_file(job, output, h, file);
             let capacity = h.sizes.capacity;
             cube::encode(&output[..capacity], cube, h.shape);
-            pack_writer::write_air(cube, output, h.shape);
+            pack::write_air(cube, output, h.shape);
             Answer::Done
         }
     }
@@ -56,5 +56,5 @@ fn lay_file(job: &[u8], output: &mut [u8], h: Header, file: Section)
 {
     let sizes = h.sizes;
     let capacity = sizes.capacity;
-    pack_writer::write_data(job, file, &mut output[..capacity]);
+    pack::write_data(job, file, &mut output[..capacity]);
 }

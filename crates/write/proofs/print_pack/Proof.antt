@@ -8,7 +8,7 @@ use borrow.Author.Needs.{needs}
 use Rattle.shape.specs.Shapes.{Valid}
 use Rattle.pack.specs.Packs.{packSize}
 use Rattle.pack.proofs.Sound.{job-sound}
-use Rattle.pack.proofs.Sizing.{size-given, size-refused}
+use Rattle.pack.proofs.Outcomes.{size-given, size-refused}
 use Rattle.write.proofs.Printed.{pack-too-big-printed, cube-fits, pack-printed}
 use Rattle.write.proofs.print_pack.Statement.{statement}
 use Rattle.write.proofs.print_pack.Tie as tie
@@ -17,7 +17,7 @@ valid : (s : tie.Start) → Valid (s .args .h .shape)
 valid s = job-sound _ _ _ (s .pre .3 .1) .header .valid
 
 sized : (k : tie.After-size) → k .size .given .0 .0 ≡ packSize (k .before .before .before .before .before .before .args .h .shape)
-sized k = let p = k .before .before in size-given _ _ (p .pack-bytes .ensures) _ (k .size .given .1) .1
+sized k = let p = k .before .before in size-given _ (valid (p .before .before .before .before)) _ (p .pack-bytes .ensures) _ (k .size .given .1)
 
 room : (c : tie.After-z) → let s = c .before .before .before .before .before .before .before .before .before in s .args .h .sizes .bytes ≤ length (s .args .cube .now)
 room c =
@@ -70,7 +70,7 @@ write-pack-requires c κs = search needs
 returns-2 : tie.Need-returns-2
 returns-2 c =
     let p = c .before .before in
-    absurd (size-refused _ _ (p .pack-bytes .ensures) (valid (p .before .before .before .before)) _ (c .enum-told .given .1))
+    absurd (size-refused _ (valid (p .before .before .before .before)) _ (p .pack-bytes .ensures) _ (c .enum-told .given .1))
 
 same-length-2 : tie.Need-same-length-2
 same-length-2 c = search needs

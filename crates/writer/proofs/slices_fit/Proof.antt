@@ -1,7 +1,7 @@
 -- `writer::slices_fit` meets its contract. Assumes nothing.
 use borrow.Author.Tests.{eq-eqb, ne-eqb}
 use Rattle.shape.specs.Shapes.{both}
-use Rattle.pack.proofs.Sizing.{size-given, size-refused}
+use Rattle.pack.proofs.Outcomes.{size-given, size-refused}
 use borrow.Author.Needs.{needs}
 use Rattle.writer.proofs.slices_fit.Statement.{statement}
 use Rattle.writer.proofs.slices_fit.Tie as tie
@@ -16,13 +16,13 @@ enum-told : tie.Need-enum-told
 enum-told c = search needs
 
 returns : tie.Need-returns
-returns c = absurd (size-refused _ _ (c .before .before .pack-bytes .ensures) (c .before .before .before .pre) _ (c .enum-told .given .1))
+returns c = absurd (size-refused _ (c .before .before .before .pre) _ (c .before .before .pack-bytes .ensures) _ (c .enum-told .given .1))
 
 returns-2 : tie.Need-returns-2
 unfolding both
 returns-2 c =
     let told = c .before .before .before .before in
-    rw (eq-eqb _ _ (c .if1 .taken), size-given _ _ (told .before .before .pack-bytes .ensures) _ (told .asked .given .1) .1)
+    rw (eq-eqb _ _ (c .if1 .taken), size-given _ (told .before .before .before .pre) _ (told .before .before .pack-bytes .ensures) _ (told .asked .given .1))
 
 returns-3 : tie.Need-returns-3
 unfolding both

@@ -1,7 +1,7 @@
 -- `jibrufath::needs::needs_of` meets its contract: a header that was read has a valid shape, its sizes, and room for the file's length.
 use borrow.Author.Needs.{needs}
 use Rattle.shape.specs.Shapes.{sizes}
-use Rattle.pack.proofs.Sizing.{size-given, size-refused}
+use Rattle.pack.proofs.Outcomes.{size-given, size-refused}
 use Rattle.jibrufath.specs.Needs.{needsOf}
 use Rattle.jibrufath.proofs.needs.needs_of.Statement.{statement}
 use Rattle.jibrufath.proofs.needs.needs_of.Tie as tie
@@ -24,7 +24,7 @@ sub-t14 c =
 returns : tie.Need-returns
 returns c =
     let k = c .before .before in
-    absurd (size-refused _ _ (k .pack-bytes .ensures) (k .before .before .before .pre .valid) _ (c .enum-told .given .1))
+    absurd (size-refused _ (k .before .before .before .pre .valid) _ (k .pack-bytes .ensures) _ (c .enum-told .given .1))
 
 returns-2 : tie.Need-returns-2
 unfolding needsOf sizes
@@ -32,7 +32,7 @@ returns-2 c =
     let k = c .before .before in
     let p = k .before .before in
     let h = p .before .before .before .pre in
-    rw (h .measured, size-given _ _ (p .pack-bytes .ensures) _ (k .size .given .1) .1)
+    rw (h .measured, size-given _ (h .valid) _ (p .pack-bytes .ensures) _ (k .size .given .1))
 
 pub needs-of-spec : {M : Type 1} → statement M
 needs-of-spec =

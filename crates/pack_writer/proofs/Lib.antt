@@ -1,5 +1,0 @@
--- Why the crate `pack_writer` meets its contracts: parts laid one behind the other (`Laying`), the answers of `write_air` (`Outcomes`), and an
--- air pack part by part (`Starting`).
-pub mod Laying
-pub mod Outcomes
-pub mod Starting
