@@ -31,7 +31,7 @@ use Rattle.line.proofs.Codeword.{codeword-cong}
 use Rattle.stopping.specs.Stopping.{onLine}
 use Rattle.stopping.proofs.Stopping.{onLine-none}
 use Rattle.peel.specs.Peel.{Sized}
-use Rattle.peel.specs.Inner.Steps.{Neighbours, runOf}
+use Rattle.peel.specs.Inner.OnLine.{Neighbours, runOf}
 use Rattle.peel.proofs.Lines.{run-place, lines-inside}
 use Rattle.fill.specs.Inner.Verify.{Right, AxisRight, AllRight}
 

@@ -16,7 +16,8 @@ use Rattle.shape.proofs.Geometry.{lineAt, lineOn, line-through, on-line, axis-c
 use Rattle.stopping.proofs.Stopping.{onLine-cong}
 use Rattle.shape.specs.Flags.{missing}
 use Rattle.peel.specs.Peel.{Stops}
-use Rattle.peel.specs.Inner.Steps.{markAt, QuietIn, stretched, Quiet, LineStops, Calm, Keeps, Awake, Woken, AllQuiet}
+use Rattle.peel.specs.Inner.Wake.{markAt, QuietIn, stretched, Quiet, Awake, Woken, AllQuiet}
+use Rattle.peel.specs.Inner.Sweep.{LineStops, Calm, Keeps}
 use lib.Seq.{getD-set-same, getD-set-other}
 use Rattle.shape.proofs.Valid.{area-le}
 use Rattle.shape.proofs.Missing.{missing-cong}

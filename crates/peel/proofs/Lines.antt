@@ -15,7 +15,7 @@ use Rattle.cube.specs.Cube.{layerLine}
 use Rattle.cube.proofs.AxisRuns.{runFrom, lineAt-run}
 use Rattle.line.specs.Run.{lineAt, Inside}
 use Rattle.erasures.specs.Erasures.{Scanned}
-use Rattle.peel.specs.Inner.Steps.{Neighbours, Alike, runOf}
+use Rattle.peel.specs.Inner.OnLine.{Neighbours, Alike, runOf}
 
 -- ---- neighbouring lines as a run
 

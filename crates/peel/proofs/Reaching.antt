@@ -15,7 +15,7 @@ use Rattle.shape.proofs.Missing.{missing-one, missing-cong}
 use Rattle.shape.proofs.Geometry.{all-axes}
 use Rattle.peel.specs.Peel.{Sized}
 use Rattle.peel.specs.Peel.{Stops, Agrees, Reaches, Peeled}
-use Rattle.peel.specs.Inner.Steps.{AxisStops, Filled}
+use Rattle.peel.specs.Inner.Sweep.{AxisStops, Filled}
 
 -- ---- one state reaches another
 

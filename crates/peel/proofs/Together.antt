@@ -31,7 +31,8 @@ use Rattle.shape.specs.Flags.{missing}
 use Rattle.erasures.proofs.Scanning.{scanned-order, scanned-one, scanned-two}
 use Rattle.peel.specs.Peel.{Sized}
 use Rattle.peel.specs.Peel.{Stops, Agrees, CodeOff, Reaches}
-use Rattle.peel.specs.Inner.Steps.{Filled, Neighbours, Alike, Hole, earlier, later, Flagged, AllStop, runOf}
+use Rattle.peel.specs.Inner.Sweep.{Filled}
+use Rattle.peel.specs.Inner.OnLine.{Neighbours, Alike, Hole, earlier, later, Flagged, AllStop, runOf}
 use Rattle.peel.proofs.Lines.{run-place, run-beside, lines-inside}
 
 -- ---- a block of cells fewer

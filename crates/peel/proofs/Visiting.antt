@@ -13,7 +13,9 @@ use Rattle.shape.proofs.Geometry.{axis-line-every, line-passed, line-is, outerO
 use Rattle.stopping.specs.Stopping.{onLine}
 use Rattle.shape.specs.Flags.{missing}
 use Rattle.peel.specs.Peel.{Stops}
-use Rattle.peel.specs.Inner.Steps.{AxisStops, Filled, Neighbours, Hole, earlier, later, Flagged, AllStop, markAt, QuietIn, Quiet, LineStops, LinesStop, Calm, Awake, Woken, AllQuiet, Visited, LinesVisited}
+use Rattle.peel.specs.Inner.Wake.{markAt, QuietIn, Quiet, Awake, Woken, AllQuiet}
+use Rattle.peel.specs.Inner.Sweep.{AxisStops, Filled, LineStops, LinesStop, Calm, Visited}
+use Rattle.peel.specs.Inner.OnLine.{Neighbours, Hole, earlier, later, Flagged, AllStop, LinesVisited}
 use lib.Arith.{digits-lt, digits-div, digits-mod}
 use lib.Seq.{getD-set-same, getD-set-other}
 use Rattle.answer.specs.Values.{passes}

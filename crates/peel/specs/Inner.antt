@@ -1,2 +1,4 @@
--- What the functions inside the crate `peel` promise each other.
-pub mod Steps
+-- What the functions inside the crate `peel` promise each other, by module.
+pub mod Wake
+pub mod Sweep
+pub mod OnLine

@@ -13,7 +13,8 @@ ghost use Rattle.field.specs.Field.{reduction};
 ghost use Rattle.line.proofs.Runs.{Solved};
 ghost use Rattle.erasures.specs.Erasures.{Places, Scanned};
 ghost use Rattle.peel.specs.Peel.{Sized};
-ghost use Rattle.peel.specs.Inner.Steps.{Woken, Neighbours, Alike, Flagged, LinesVisited, runOf};
+ghost use Rattle.peel.specs.Inner.Wake.{Woken};
+ghost use Rattle.peel.specs.Inner.OnLine.{Neighbours, Alike, Flagged, LinesVisited, runOf};
 
 // How many neighbouring lines were visited, and how many cells filled on them.
 pub(crate) struct Progress {

@@ -10,7 +10,7 @@ ghost use Prim.Native.Nat.{_+_, _*_, _%_, _≤_, _<_};
 ghost use lib.ListN.{length};
 ghost use Rattle.field.specs.Field.{reduction};
 ghost use Rattle.peel.specs.Peel.{Sized, Peeled};
-ghost use Rattle.peel.specs.Inner.Steps.{AxisStops, LinesStop, Filled, Calm, Visited};
+ghost use Rattle.peel.specs.Inner.Sweep.{AxisStops, LinesStop, Filled, Calm, Visited};
 
 pub(crate) fn sweeps(cube: &mut [u8], flags: &mut [u8], marks: &mut [u8; 24576], sh: Shape)
     requires { ⌜ Sized sh (now cube) (now flags) ⌝ }

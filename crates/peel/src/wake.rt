@@ -6,7 +6,7 @@ ghost use mathlib.Core.Bool.{true};
 ghost use Prim.Native.Nat.{ℕ, _+_, _*_, _/_, _%_, _≤_, _<_, min};
 ghost use lib.ListN.{length, getD, set};
 ghost use Rattle.shape.specs.Shapes.{Valid, cells, linesOf};
-ghost use Rattle.peel.specs.Inner.Steps.{stretched, Woken, AllQuiet};
+ghost use Rattle.peel.specs.Inner.Wake.{stretched, Woken, AllQuiet};
 
 // The mark of a group whose lines are all quiet.
 pub(crate) const QUIET: u8 = 71;

@@ -4,7 +4,7 @@ use native.Mathlib.Omega.{arith}
 use borrow.Author.Needs.{needs}
 use borrow.Author.Tests.{eqb-true, not-false}
 use Rattle.shape.specs.Flags.{missing}
-use Rattle.peel.specs.Inner.Steps.{Alike}
+use Rattle.peel.specs.Inner.OnLine.{Alike}
 use Rattle.peel.proofs.Lines.{alike-one, alike-more}
 use Rattle.peel.proofs.on_line.alike.Statement.{statement}
 use Rattle.peel.proofs.on_line.alike.Tie as tie

@@ -12,7 +12,8 @@ use Rattle.erasures.proofs.Inside.{line-places}
 use Rattle.field.specs.Field.{reduction}
 use Rattle.field.proofs.Primitive.{primitive}
 use Rattle.erasures.proofs.Scanning.{scanned-order}
-use Rattle.peel.specs.Inner.Steps.{Neighbours, Filled, AllStop}
+use Rattle.peel.specs.Inner.Sweep.{Filled}
+use Rattle.peel.specs.Inner.OnLine.{Neighbours, AllStop}
 use Rattle.peel.proofs.Lines.{neighbours-first, neighbours-fewer}
 use Rattle.peel.proofs.Reaching.{filled-le}
 use Rattle.peel.proofs.Together.{lines-filled, lines-stop}

@@ -5,7 +5,7 @@ use native.Mathlib.Omega.{arith}
 use lib.ListN.{length, length-set}
 use Rattle.shape.specs.Shapes.{cells}
 use Rattle.shape.proofs.Geometry.{line-cell-lt}
-use Rattle.peel.specs.Inner.Steps.{Flagged}
+use Rattle.peel.specs.Inner.OnLine.{Flagged}
 use Rattle.peel.proofs.Visiting.{flagged-none, flagged-more}
 use Rattle.peel.proofs.on_line.flag_holes.Statement.{statement}
 use Rattle.peel.proofs.on_line.flag_holes.Tie as tie

@@ -5,7 +5,7 @@ use borrow.Author.Needs.{needs}
 use denote.Ref.{now}
 use Rattle.shape.proofs.Geometry.{line-length-high}
 use Rattle.cube.proofs.Completing.{outcome-solved}
-use Rattle.peel.specs.Inner.Steps.{runOf}
+use Rattle.peel.specs.Inner.OnLine.{runOf}
 use Rattle.peel.proofs.Lines.{neighbours-first, first-room, stride-room, width-room, lines-inside}
 use Rattle.peel.proofs.on_line.recover.Statement.{statement}
 use Rattle.peel.proofs.on_line.recover.Tie as tie

@@ -1,7 +1,7 @@
 -- `peel::sweep::group` marks a group quiet and visits those of its lines that were awake.
 use native.Mathlib.Omega.{arith}
 use lib.ListN.{length-set}
-use Rattle.peel.specs.Inner.Steps.{markAt}
+use Rattle.peel.specs.Inner.Wake.{markAt}
 use Rattle.peel.proofs.Visiting.{group-calm, group-filled}
 use borrow.Author.Needs.{needs}
 use Rattle.peel.proofs.sweep.group.Statement.{statement}

@@ -3,7 +3,7 @@ use Prim.Native.Nat.{_-_, _*_, _≤_}
 use native.Mathlib.Omega.{arith}
 use denote.Ref.{now}
 use Rattle.field.specs.Field.{reduction}
-use Rattle.peel.specs.Inner.Steps.{LinesStop, Filled, Calm}
+use Rattle.peel.specs.Inner.Sweep.{LinesStop, Filled, Calm}
 use Rattle.peel.proofs.Visiting.{swept-none, swept-quiet, swept-group, swept-all}
 use Rattle.peel.proofs.Reaching.{reaches-sized, filled-le}
 use Rattle.peel.proofs.sweep.sweep.Statement.{statement}

@@ -9,7 +9,7 @@ use Rattle.stopping.specs.Stopping.{number}
 use Rattle.shape.specs.Flags.{missing}
 use Rattle.field.specs.Field.{reduction}
 use Rattle.peel.specs.Peel.{Reaches}
-use Rattle.peel.specs.Inner.Steps.{Calm}
+use Rattle.peel.specs.Inner.Sweep.{Calm}
 use Rattle.peel.proofs.Reaching.{reaches-refl, reaches-trans, reaches-sized, Idle, idle-none, turn-idle, turn-bound, turn-less, axes-peeled}
 use Rattle.peel.proofs.sweep.sweeps.Statement.{statement}
 use Rattle.peel.proofs.sweep.sweeps.Tie as tie

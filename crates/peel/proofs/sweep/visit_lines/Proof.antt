@@ -4,7 +4,7 @@ use Prim.Native.Nat.{_+_, _-_, _≤_}
 use native.Mathlib.Omega.{arith}
 use denote.Ref.{now}
 use Rattle.field.specs.Field.{reduction}
-use Rattle.peel.specs.Inner.Steps.{Visited}
+use Rattle.peel.specs.Inner.Sweep.{Visited}
 use Rattle.peel.proofs.Visiting.{visited-none, visited-next, visited-fewer}
 use Rattle.peel.proofs.Reaching.{reaches-sized, filled-le}
 use Rattle.peel.proofs.sweep.visit_lines.Statement.{statement}

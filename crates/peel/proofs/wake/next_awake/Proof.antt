@@ -3,7 +3,7 @@ use Prim.Native.Nat.{_-_, _≤_}
 use native.Mathlib.Omega.{arith}
 use borrow.Author.Needs.{needs}
 use borrow.Author.Tests.{eqb-true}
-use Rattle.peel.specs.Inner.Steps.{AllQuiet}
+use Rattle.peel.specs.Inner.Wake.{AllQuiet}
 use Rattle.peel.proofs.Awake.{quiet-next}
 use Rattle.peel.proofs.wake.next_awake.Statement.{statement}
 use Rattle.peel.proofs.wake.next_awake.Tie as tie

@@ -1,7 +1,7 @@
 -- `peel::wake::past_quiet` passes over groups that are quiet, 32 at a time.
 use Prim.Native.Nat.{_-_, _≤_}
 use native.Mathlib.Omega.{arith}
-use Rattle.peel.specs.Inner.Steps.{AllQuiet}
+use Rattle.peel.specs.Inner.Wake.{AllQuiet}
 use Rattle.peel.proofs.Awake.{quiet-none, quiet-more}
 use Rattle.peel.proofs.wake.past_quiet.Statement.{statement}
 use Rattle.peel.proofs.wake.past_quiet.Tie as tie

@@ -1,6 +1,6 @@
 -- `peel::wake::stretched` computes a mark with one more line awake.
 use native.Mathlib.Omega.{arith}
-use Rattle.peel.specs.Inner.Steps.{stretched}
+use Rattle.peel.specs.Inner.Wake.{stretched}
 use Rattle.peel.proofs.wake.stretched.Statement.{statement}
 use Rattle.peel.proofs.wake.stretched.Tie as tie
 
