@@ -9,6 +9,7 @@ use Rattle.answer.specs.Values.{Value, refused, Checked, passes, fails, checked
 use Rattle.field.specs.Field.{reduction}
 use Rattle.shape.specs.declared.Shape.{Shape}
 use Rattle.shape.specs.Shapes.{shapeChecked, lineOf}
+use Rattle.erasures.specs.Scan.{scanOf}
 use Rattle.data.specs.Calls.{ExtractOutcome, extract-refused, extract-done, ReadOutcome, read-refused, read-done, ZeroOutcome, zero-refused, zero-done}
 use Rattle.cube.specs.Calls.{EncodeOutcome, encode-refused, encode-done, CheckOutcome, check-refused, check-done}
 use Rattle.fill.specs.Fill.{CellsLeft, FillOutcome, fill-refused, fill-done, fill-contradiction}
@@ -24,7 +25,7 @@ use Rattle.receiver.specs.Receive.{Memory, ReceiveOutcome, unopened, bad-file, 
 use Rattle.text.specs.Text.{textSizeChecked, WriteTextOutcome, ReadTextOutcome, PackSizeOutcome, size-broken, size-checked}
 use Rattle.demands.specs.Ends.{isOneOf, OneOf, placed, keeping, Ends, in-result, in-refusal, in-place, Keeps, OnlyReads}
 use Rattle.demands.specs.Demand1.{shapeNumbers, cubeNumbers, fillNumbers, mendNumbers, headerNumbers, packNumbers, writerNumbers, receiverNumbers, airNumbers, startNumbers, writeTextNumbers, readTextNumbers, textPackNumbers, FillLeaves, MendLeaves, ReceiveLeaves, Demand1}
-use Rattle.demands.proofs.Numbers.{Plain, shape-number, size-number, line-number, slices-number, cube-number, write-air-number, axis-number, read-number, fill-number, mend-number, header-number, job-number, air-number, write-number, receive-number, air-size-number, text-pack-number, start-number, read-text-number, text-size-number, write-text-number}
+use Rattle.demands.proofs.Numbers.{Plain, shape-number, size-number, line-number, scan-number, slices-number, cube-number, write-air-number, axis-number, read-number, fill-number, mend-number, header-number, job-number, air-number, write-number, receive-number, air-size-number, text-pack-number, start-number, read-text-number, text-size-number, write-text-number}
 
 -- ---- numbers
 
@@ -216,5 +217,6 @@ demand1 =
       measure = λ sh. checked-ends shapeNumbers (shapeChecked sh) (λ n. shape-number n sh);
       pack-bytes = λ sh. checked-ends shapeNumbers (sizeChecked sh) (λ n. size-number n sh);
       axis-line = λ sh axis m. checked-ends shapeNumbers (lineOf sh axis m) (λ n. line-number n sh axis m);
+      scan = λ fs sh axis m. checked-ends cubeNumbers (scanOf fs sh axis m) (λ n. scan-number n fs sh axis m);
       air-bytes = λ sh k. checked-ends airNumbers (airSizeChecked sh k) (λ n. air-size-number n sh k);
     }

@@ -11,6 +11,7 @@ use Rattle.shape.specs.declared.Shape.{Shape}
 use Rattle.shape.specs.declared.Sizes.{Sizes}
 use Rattle.shape.specs.Shapes.{both, shapeChecked, lineIn, lineOf}
 use Rattle.shape.proofs.Valid.{both-parts}
+use Rattle.erasures.specs.Scan.{scanOf}
 use Rattle.data.specs.Calls.{slicesChecked, cubeChecked, readChecked}
 use Rattle.fill.specs.Fill.{flagsChecked}
 use Rattle.mend.specs.Mend.{axisChecked, mendChecked, wholeChecked}
@@ -62,6 +63,16 @@ module _ (n : ℕ) where
       let P = Plain shapeNumbers in
       let one = plain shapeNumbers 1 refl in
       check-number P n _ 1 _ one (then-number P n _ _ (shape-number sh) (λ z. check-number P n _ 1 _ one (passes-number P n _)))
+
+  -- those of a line, then 4
+  pub scan-number : (fs : List ℕ) (sh : Shape) (axis m : ℕ) → scanOf fs sh axis m ≡ fails n → Plain cubeNumbers n
+  unfolding scanOf lineOf lineIn isPlain isOneOf placed keeping both cubeNumbers
+  scan-number fs sh axis m e =
+      let P = Test cubeNumbers in
+      plain cubeNumbers n
+      (then-number P n _ _
+      (check-number P n _ 1 _ refl (then-number P n _ _ (shape-fails P n refl refl refl sh) (λ z. check-number P n _ 1 _ refl (passes-number P n _))))
+      (λ l. check-number P n _ 4 _ refl (passes-number P n _)) e)
 
   -- 1, 2, 3 of the shape, then 4 by a test of its sizes
   slices-fail : (test : Sizes → Bool) (sh : Shape)

@@ -13,6 +13,8 @@ use Rattle.shape.specs.declared.Sizes.{Sizes}
 use Rattle.shape.specs.declared.Line.{Line}
 use Rattle.shape.specs.Shapes.{shapeChecked, lineOf}
 use Rattle.shape.specs.Flags.{missing}
+use Rattle.erasures.specs.declared.ScanCounts.{ScanCounts}
+use Rattle.erasures.specs.Scan.{scanOf}
 use Rattle.data.specs.Calls.{ExtractOutcome, ReadOutcome, ZeroOutcome}
 use Rattle.cube.specs.Calls.{EncodeOutcome, CheckOutcome}
 use Rattle.fill.specs.Fill.{CellsLeft, Cleared, FillOutcome}
@@ -162,6 +164,9 @@ pub record Demand1 : Type 0 where
   pub start-air :
       (sh : Shape) (n : ℕ) (before after : List ℕ) (value : Value Cursor) → StartOutcome sh n before after value →
       Ends startNumbers (Keeps before after) value
+  -- request P2: the count of holes on a line
+  pub scan :
+      (fs : List ℕ) (sh : Shape) (axis m : ℕ) (value : Value ScanCounts) → value ≡ checked (scanOf fs sh axis m) → Ends cubeNumbers OnlyReads value
   -- the sizes and lines of a shape
   pub measure :
       (sh : Shape) (value : Value Sizes) → value ≡ checked (shapeChecked sh) → Ends shapeNumbers OnlyReads value

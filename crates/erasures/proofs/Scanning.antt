@@ -42,6 +42,13 @@ module _ (M : ℕ → Bool) (start stride : ℕ) where
   -- ---- what follows of what was found
 
   module _ (len count first last : ℕ) (s : Scanned M start stride len count first last) where
+    -- the line itself has so many
+    pub scanned-few : count < 3 → onLine M start stride len < 3
+    scanned-few few = omega (arith, s .number)
+
+    pub scanned-many : 3 ≤ count → 3 ≤ onLine M start stride len
+    scanned-many three = omega (arith, s .number)
+
     pub scanned-order : 1 ≤ count → first ≤ last
     scanned-order some =
         elim (decLt last first) [

@@ -1,2 +1,4 @@
 -- What a reader of the crate `erasures` must believe.
+pub mod Scan
+pub mod Theorems
 pub mod Erasures

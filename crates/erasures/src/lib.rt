@@ -1,23 +1,64 @@
-// Erasures: which cells of a line are missing. No field stands below it.
+// Erasures: which cells of a line are missing, counted up to the third. No field stands below it.
+use answer::Fault;
+use answer::Refusal;
 use shape::Line;
+use shape::LineAnswer;
+use shape::Shape;
+ghost use mathlib.Core.Path.{_≡_};
+ghost use Rattle.answer.specs.Values.{checked};
 ghost use Rattle.shape.specs.Flags.{missing};
 ghost use Rattle.span.specs.Decision.{Decides};
-ghost use Rattle.erasures.specs.Erasures.{Places, Scanned, ScanOutcome};
+ghost use Rattle.erasures.specs.Scan.{placesRead, scanOf, scanValue};
+ghost use Rattle.erasures.specs.Erasures.{Places, Scanned, LineOutcome};
 
-// The missing cells of a line: how many, at most three, and the first and the last place looked at that misses one.
+// What a scan of a line tells: how many erasures were found, at most three, and how many places were read to find them (request P2: holes and
+// places read).
+pub struct ScanCounts {
+    pub erasures: usize,
+    pub read: usize,
+}
+
+pub enum ScanAnswer {
+    Scanned(ScanCounts),
+    Refused(Refusal),
+}
+
+// The missing cells of a line: how many, at most three, how many places were read, and the first and the last of them that misses a cell.
 pub struct MissingPlaces {
     pub count: usize,
+    pub read: usize,
     pub first: usize,
     pub last: usize,
 }
 
+// Scans line m of an axis up to its third erasure, lines counted by the cell number of their first cell. Flags behind the places read may be
+// anything, and no flag is refused: a scan that asked them all would not stop.
+pub fn scan(flags: &[u8], sh: Shape, axis: usize, m: usize) -> ScanAnswer
+    ensures { λ r. ⌜ scanValue r ≡ checked (scanOf (now (flags .entry)) sh axis m) ⌝ }
+{
+    match shape::axis_line(sh, axis, m) {
+        LineAnswer::Refused(f) => ScanAnswer::Refused(f),
+        LineAnswer::Found(line) => {
+            if flags.len() != sh.l1 * sh.l2 * sh.l3 {
+                return ScanAnswer::Refused(Refusal::Plain(Fault::SliceLength));
+            }
+            let e = scan_line(flags, line);
+            ScanAnswer::Scanned(ScanCounts {
+                erasures: e.count,
+                read: e.read,
+            })
+        }
+    }
+}
+
 // The missing cells of a line whose places all have a flag; no other line is looked at, and nothing found on it.
-pub fn scan(flags: &[u8], line: Line) -> MissingPlaces
-    ensures { λ r. ⌜ ScanOutcome (now (flags .entry)) (line .first) (line .stride) (line .len) (r .count) (r .first) (r .last) ⌝ }
+pub fn scan_line(flags: &[u8], line: Line) -> MissingPlaces
+    ensures { λ r. ⌜ LineOutcome (now (flags .entry)) (line .first) (line .stride) (line .len) (r .count) (r .read) (r .first) (r .last) ⌝ }
 {
     if !has_flags(flags, line) {
         return MissingPlaces {
             count: 0,
+            read: 0,
             first: 0,
             last: 0,
         };
@@ -42,12 +83,14 @@ fn has_flags(flags: &[u8], line: Line) -> bool
 fn look(flags: &[u8], line: Line) -> MissingPlaces
     requires { ⌜ Places (now flags) (line .first) (line .stride) (line .len) ⌝ }
     ensures { λ r. ⌜ Scanned (missing (now (flags .entry))) (line .first) (line .stride) (line .len) (r .count) (r .first) (r .last) ⌝ }
+    ensures { λ r. ⌜ r .read ≡ placesRead (missing (now (flags .entry))) (line .first) (line .stride) (line .len) ⌝ }
 {
     let first = line.first;
     let stride = line.stride;
     let len = line.len;
     let mut e = MissingPlaces {
         count: 0,
+        read: 0,
         first: 0,
         last: 0,
     };
@@ -62,5 +105,6 @@ fn look(flags: &[u8], line: Line) -> MissingPlaces
         }
         i += 1;
     }
+    e.read = i;
     e
 }

@@ -88,7 +88,7 @@ fn verify_line(cube: &[u8], flags: &[u8], sh: Shape, line: Line) -> bool
     requires { ⌜ IsLine sh (line .first) (line .stride) (line .len) ⌝ }
     ensures { λ r. ⌜ Decides (Right reduction sh (now (cube .entry)) (now (flags .entry)) (line .first) (line .stride) (line .len)) r ⌝ }
 {
-    let e = erasures::scan(flags, line);
+    let e = erasures::scan_line(flags, line);
     if e.count != 0 {
         return true;
     }

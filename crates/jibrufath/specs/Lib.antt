@@ -1,5 +1,6 @@
 -- What a reader of the crate `jibrufath` must believe; and, in `Inner`, what its own functions promise each other.
 pub mod Exports
+pub mod Lines
 pub mod Packs
 pub mod Needs
 pub mod Inner

@@ -1,7 +1,8 @@
-// The calls that C and Rust link: a shape as four numbers, an answer as one word of 64 bits. Calls on cubes, on packs, on texts, on sizes and
-// in the field.
+// The calls that C and Rust link: a shape as four numbers, an answer as one word of 64 bits. Calls on cubes, on a line, on packs, on texts, on
+// sizes and in the field.
 mod cubes;
 mod elements;
+mod lines;
 mod needs;
 mod packs;
 mod sizes;

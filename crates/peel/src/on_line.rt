@@ -38,7 +38,7 @@ pub(crate) fn fill_lines(
     ensures { λ r. ⌜ (1 ≤ r .lines) × (r .lines ≤ most) ⌝ }
     ensures { λ r. ⌜ LinesVisited reduction sh (line .first) (line .stride) (line .len) (r .lines) (now (cube .entry)) (now (flags .entry)) (now (marks .entry)) (now (cube .exit)) (now (flags .exit)) (now (marks .exit)) (r .filled) ⌝ }
 {
-    let e = erasures::scan(flags, line);
+    let e = erasures::scan_line(flags, line);
     let count = e.count;
     if count == 0 || 2 < count {
         return Progress {
@@ -69,7 +69,7 @@ fn alike(flags: &[u8], line: Line, e: MissingPlaces, most: usize) -> usize
             stride: line.stride,
             len: line.len,
         };
-        let s = erasures::scan(flags, next);
+        let s = erasures::scan_line(flags, next);
         if s.count != e.count || s.first != e.first || s.last != e.last {
             return n;
         }

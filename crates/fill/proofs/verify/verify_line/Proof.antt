@@ -12,13 +12,13 @@ use denote.Ref.{now}
 use Rattle.fill.proofs.verify.verify_line.Statement.{statement}
 use Rattle.fill.proofs.verify.verify_line.Tie as tie
 
-counted : (c : tie.After-scan) → c .scan .result .count ≡ min 3 (onLine (missing (now (c .before .before .before .args .flags))) (c .before .before .before .args .line .first) (c .before .before .before .args .line .stride) (c .before .before .before .args .line .len))
+counted : (c : tie.After-scan-line) → c .scan-line .result .count ≡ min 3 (onLine (missing (now (c .before .before .before .args .flags))) (c .before .before .before .args .line .first) (c .before .before .before .args .line .stride) (c .before .before .before .args .line .len))
 counted c =
     let pre = c .before .before .before .pre in
-    c .scan .ensures .done (line-places _ _ _ _ _ (pre .0 .valid) (pre .0 .flags) (pre .1)) .number
+    c .scan-line .ensures .done (line-places _ _ _ _ _ (pre .0 .valid) (pre .0 .flags) (pre .1)) .0 .number
 
-scan-requires : tie.Need-scan-requires
-scan-requires c κs = search needs
+scan-line-requires : tie.Need-scan-line-requires
+scan-line-requires c κs = search needs
 
 returns : tie.Need-returns
 returns c =
@@ -44,4 +44,4 @@ returns-2 c =
 
 pub verify-line-spec : {M : Type 1} → statement M
 verify-line-spec =
-    tie.close (tie.spec scan-requires returns mul-t9 mul-t10 reduction-requires codewords-requires returns-2)
+    tie.close (tie.spec scan-line-requires returns mul-t9 mul-t10 reduction-requires codewords-requires returns-2)

@@ -23,8 +23,8 @@ add-t9 : tie.Need-add-t9 Inv-loop μ-loop
 add-t9 c =
     omega (arith, c .before .before .before .before .pre .1 .0 (c .before .before .loop .n) (omega arith) .within 0 (omega (arith, c .before .before .before .before .pre .1 .1 .bound (c .before .before .before .before .pre .0 .1))))
 
-scan-requires : tie.Need-scan-requires Inv-loop μ-loop
-scan-requires c κs = search needs
+scan-line-requires : tie.Need-scan-line-requires Inv-loop μ-loop
+scan-line-requires c κs = search needs
 
 returns : tie.Need-returns Inv-loop μ-loop
 returns c = c .before .before .before .before .before .before .loop .inv
@@ -39,7 +39,7 @@ loop-again : tie.Need-loop-again Inv-loop μ-loop
 loop-again c = (
   omega arith,
   omega arith,
-  alike-more (c .before .before .before .before .before .before .before .before .before .before .before .before .loop .inv .2) (c .before .before .before .before .before .before .before .before .before .scan .ensures .done (c .before .before .before .before .before .before .before .before .before .before .before .before .before .before .pre .1 .0 (c .before .before .before .before .before .before .before .before .before .before .before .before .loop .n) (omega arith))) (c .before .before .before .before .before .before .if1 .left) (eqb-true _ _ (not-false _ (c .before .before .before .if2 .left))) (eqb-true _ _ (not-false _ (c .if3 .left))),
+  alike-more (c .before .before .before .before .before .before .before .before .before .before .before .before .loop .inv .2) (c .before .before .before .before .before .before .before .before .before .scan-line .ensures .done (c .before .before .before .before .before .before .before .before .before .before .before .before .before .before .pre .1 .0 (c .before .before .before .before .before .before .before .before .before .before .before .before .loop .n) (omega arith)) .0) (c .before .before .before .before .before .before .if1 .left) (eqb-true _ _ (not-false _ (c .before .before .before .if2 .left))) (eqb-true _ _ (not-false _ (c .if3 .left))),
 )
 
 returns-2 : tie.Need-returns-2 Inv-loop μ-loop
@@ -53,7 +53,7 @@ alike-spec =
     μ-loop
     loop-holds
     add-t9
-    scan-requires
+    scan-line-requires
     returns
     add-n
     loop-less

@@ -21,15 +21,15 @@ use Rattle.peel.proofs.Visiting.{lines-recovered, line-left}
 use Rattle.peel.proofs.on_line.fill_lines.Statement.{statement}
 use Rattle.peel.proofs.on_line.fill_lines.Tie as tie
 
-scanned : (c : tie.After-scan) → Scanned (missing (now (c .before .before .before .before .args .flags))) (c .before .before .before .before .args .line .first) (c .before .before .before .before .args .line .stride) (c .before .before .before .before .args .line .len) (c .scan .result .count) (c .scan .result .first) (c .scan .result .last)
+scanned : (c : tie.After-scan-line) → Scanned (missing (now (c .before .before .before .before .args .flags))) (c .before .before .before .before .args .line .first) (c .before .before .before .before .args .line .stride) (c .before .before .before .before .args .line .len) (c .scan-line .result .count) (c .scan-line .result .first) (c .scan-line .result .last)
 scanned c =
     let pre = c .before .before .before .before .pre in
-    c .scan .ensures .done (line-places _ _ _ _ _ (pre .0 .valid) (pre .0 .flags) (neighbours-first (pre .1 .0)))
+    c .scan-line .ensures .done (line-places _ _ _ _ _ (pre .0 .valid) (pre .0 .flags) (neighbours-first (pre .1 .0))) .0
 
-some : (c : tie.Else2) → 1 ≤ c .before .before .scan .result .count
+some : (c : tie.Else2) → 1 ≤ c .before .before .scan-line .result .count
 some c = omega (arith, c .before .if1 .left)
 
-few : (c : tie.Else2) → c .before .before .scan .result .count ≤ 2
+few : (c : tie.Else2) → c .before .before .scan-line .result .count ≤ 2
 few c = ltb-false 2 _ (c .if2 .left)
 
 beside : (c : tie.After-alike) → Neighbours (c .before .before .before .before .before .before .before .before .args .sh) (c .before .before .before .before .before .before .before .before .args .line .first) (c .before .before .before .before .before .before .before .before .args .line .stride) (c .before .before .before .before .before .before .before .before .args .line .len) (c .alike .result)
@@ -38,13 +38,13 @@ beside c = neighbours-fewer (c .before .before .before .before .before .before .
 filled :
     (c : tie.After-flag-holes) →
     Filled reduction (c .before .before .before .before .before .before .before .before .before .before .before .before .before .before .before .args .sh) (AllStop (c .before .before .before .before .before .before .before .before .before .before .before .before .before .before .before .args .line .first) (c .before .before .before .before .before .before .before .before .before .before .before .before .before .before .before .args .line .stride) (c .before .before .before .before .before .before .before .before .before .before .before .before .before .before .before .args .line .len) (c .before .before .before .before .before .before .before .alike .result))
-    (now (c .before .before .before .before .before .before .before .before .before .before .before .before .before .before .before .args .cube)) (now (c .before .before .before .before .before .before .before .before .before .before .before .before .before .before .before .args .flags)) (c .before .before .before .before .before .recover .last .0) (c .flag-holes .last .0) (c .before .before .before .before .before .before .before .before .before .before .before .scan .result .count * c .before .before .before .before .before .before .before .alike .result)
+    (now (c .before .before .before .before .before .before .before .before .before .before .before .before .before .before .before .args .cube)) (now (c .before .before .before .before .before .before .before .before .before .before .before .before .before .before .before .args .flags)) (c .before .before .before .before .before .recover .last .0) (c .flag-holes .last .0) (c .before .before .before .before .before .before .before .before .before .before .before .scan-line .result .count * c .before .before .before .before .before .before .before .alike .result)
 filled c =
     lines-filled _ _ _ _ _ _ (c .before .before .before .before .before .before .before .before .before .before .before .before .before .before .before .pre .0) _ _ _ _ _ _ _ (beside (c .before .before .before .before .before .before .before)) (c .before .before .before .before .before .before .before .alike .ensures .2) (c .flag-holes .ensures) _ primitive _
     (λ p. omega (arith, c .before .before .before .before .before .before .before .before .before .before .before .before .before .before .slice-known .given p)) (c .before .before .before .before .before .recover .ensures)
 
-scan-requires : tie.Need-scan-requires
-scan-requires c κs = search needs
+scan-line-requires : tie.Need-scan-line-requires
+scan-line-requires c κs = search needs
 
 same-length : tie.Need-same-length
 same-length c = search needs
@@ -54,7 +54,7 @@ returns c = (
   (omega arith, c .before .before .before .before .before .pre .1 .0 .some),
   line-left _ _ _ _ _ _
       (⊎-elim (λ w. inl (omega (arith, scanned (c .before) .number, w .taken)))
-      (λ w. inr (omega (arith, scanned (c .before) .number, ltb-true 2 (c .before .scan .result .count) (w .1 .taken)))) (c .if1 .came)),
+      (λ w. inr (omega (arith, scanned (c .before) .number, ltb-true 2 (c .before .scan-line .result .count) (w .1 .taken)))) (c .if1 .came)),
 )
 
 alike-requires : tie.Need-alike-requires
@@ -95,7 +95,7 @@ pub fill-lines-spec : {M : Type 1} → statement M
 fill-lines-spec =
     tie.close
     (tie.spec
-    scan-requires
+    scan-line-requires
     same-length
     returns
     alike-requires

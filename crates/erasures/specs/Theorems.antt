@@ -1,0 +1,28 @@
+-- What request P2 says of the count that ends at the third hole, as theorems about the definitions.
+use mathlib.Core.Path.{_≡_}
+use mathlib.Core.Bool.{Bool}
+use Prim.Native.Nat.{ℕ, _+_, _*_, _≤_, _<_}
+use Rattle.stopping.specs.Stopping.{onLine}
+use Rattle.erasures.specs.Scan.{UpToThird, found, placesRead}
+
+-- "how many holes, at most 3, and how many places it read: up to and with its third hole, or the whole line": the two functions are these two
+-- numbers, and there are no others.
+unfoldable pub ReadUpToThird : Type 0
+ReadUpToThird =
+    (M : ℕ → Bool) (first stride len : ℕ) →
+    UpToThird M first stride len (found M first stride len) (placesRead M first stride len)
+    × ((n read : ℕ) → UpToThird M first stride len n read → (n ≡ found M first stride len) × (read ≡ placesRead M first stride len))
+
+-- "All other answers are the same for every cube": whatever is decided by none, one, two, or more holes is decided alike by the count that ends
+-- at the third and by the count of the whole line.
+unfoldable pub SameDecisions : Type 1
+SameDecisions =
+    (A : Type 0) (decide : ℕ → A) → ((m n : ℕ) → 3 ≤ m → 3 ≤ n → decide m ≡ decide n) →
+    (M : ℕ → Bool) (first stride len : ℕ) → decide (found M first stride len) ≡ decide (onLine M first stride len)
+
+-- Places behind those read do not matter to the answer.
+unfoldable pub BehindNotRead : Type 0
+BehindNotRead =
+    (M N : ℕ → Bool) (first stride len : ℕ) →
+    ((k : ℕ) → k < placesRead M first stride len → M (first + stride * k) ≡ N (first + stride * k)) →
+    (found M first stride len ≡ found N first stride len) × (placesRead M first stride len ≡ placesRead N first stride len)
