@@ -9,11 +9,11 @@
 
 static const char *const names[NOTED] = {
     "receive_pack", "write_pack", "write, lose, receive", "write, lose, damage, receive", "fill", "mend", "mend_axis", "encode, extract",
-    "sizes", "needs", "is_code_cube", "read_text", "write_text, read_text", "write_text, change, read_text", "text_bytes, text_pack_bytes"};
+    "sizes", "needs", "is_code_cube", "read_text", "write_text, read_text", "write_text, change, read_text", "scan", "text_bytes, text_pack_bytes"};
 
 static fuzz_call *const calls[CALLS] = {
     fuzz_receive, fuzz_write, fuzz_return, fuzz_damage, fuzz_fill, fuzz_mend, fuzz_mend_axis, fuzz_encode, fuzz_sizes, fuzz_needs,
-    fuzz_check, fuzz_read_text, fuzz_write_text, fuzz_change_text};
+    fuzz_check, fuzz_read_text, fuzz_write_text, fuzz_change_text, fuzz_scan};
 
 /* Each call with each number, and how large the count was: feedback for libFuzzer beside the library's own blocks. */
 __attribute__((section("__libfuzzer_extra_counters"))) static uint8_t answered[NOTED][MOST_NUMBER + 1][8];

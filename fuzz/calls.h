@@ -29,7 +29,7 @@ extern struct lent pack, cube, flags, file, output, data, text;
 
 /* The calls that an input chooses from, then one that others make. */
 enum call {
-    RECEIVE, WRITE, RETURN, DAMAGE, FILL, MEND, MEND_AXIS, ENCODE, SIZES, NEEDS, CHECK, READ_TEXT, WRITE_TEXT, CHANGE_TEXT,
+    RECEIVE, WRITE, RETURN, DAMAGE, FILL, MEND, MEND_AXIS, ENCODE, SIZES, NEEDS, CHECK, READ_TEXT, WRITE_TEXT, CHANGE_TEXT, SCAN,
     CALLS, TEXT_SIZES = CALLS, NOTED
 };
 
@@ -45,7 +45,7 @@ void check_filled(const struct shape *shape, const uint8_t *placed_flags, const 
 typedef void fuzz_call(struct input input, uint8_t choice);
 
 fuzz_call fuzz_receive, fuzz_write, fuzz_return, fuzz_damage, fuzz_needs;
-fuzz_call fuzz_fill, fuzz_mend, fuzz_mend_axis, fuzz_encode, fuzz_check, fuzz_sizes;
+fuzz_call fuzz_fill, fuzz_scan, fuzz_mend, fuzz_mend_axis, fuzz_encode, fuzz_check, fuzz_sizes;
 fuzz_call fuzz_read_text, fuzz_write_text, fuzz_change_text;
 
 #endif

@@ -61,6 +61,35 @@ void fuzz_fill(struct input input, uint8_t choice)
     }
 }
 
+/* A line of an axis, or one too many, or no axis; flags of any value. */
+void fuzz_scan(struct input input, uint8_t choice)
+{
+    struct shape shape = next_shape(&input);
+    const size_t *l = shape.length;
+    size_t axis = next_byte(&input) % 5, holes[255];
+    int is_axis = axis >= 1 && axis <= 3;
+    size_t lines = is_axis ? cells_of(&shape) / l[axis - 1] : 1;
+    size_t line = (next_byte(&input) * 256u + next_byte(&input)) % (lines + 1);
+    lend(&flags, near(cells_of(&shape), choice, 0), choice);
+    uint8_t share = next_byte(&input);
+    for (size_t i = 0; i < flags.len; i++)
+        flags.bytes[i] = input.len > 0 ? next_byte(&input) : flags.bytes[i] < share;
+    remember(&flags);
+    uint64_t counts[2] = {256, 256};
+    uint64_t answer = jibrufath_scan(flags.bytes, flags.len, l[0], l[1], l[2], shape.w, axis, line, counts);
+    note(SCAN, answer, 0x0013); /* 0, 1, 4 */
+    require(kept(&flags), "flags that are only read");
+    int is_line = is_axis && line < lines, exact = flags.len == cells_of(&shape);
+    require(answer == (is_line ? exact ? JIBRUFATH_OK : JIBRUFATH_SLICE_LENGTH : JIBRUFATH_DIMENSION), "the order of a scan's checks");
+    if (answer != JIBRUFATH_OK) {
+        require(counts[0] == 0 && counts[1] == 0, "no counts with a refusal");
+        return;
+    }
+    size_t all = holes_of(&shape, flags.bytes, axis, line, holes);
+    require(counts[0] == (all < 3 ? all : 3), "the holes, at most three");
+    require(counts[1] == (all < 3 ? l[axis - 1] : holes[2] + 1), "the places read");
+}
+
 void fuzz_mend(struct input input, uint8_t choice)
 {
     struct shape shape = next_shape(&input);

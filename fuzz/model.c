@@ -58,6 +58,21 @@ void peel(const struct shape *shape, uint8_t *flags)
         continue;
 }
 
+size_t holes_of(const struct shape *shape, const uint8_t *flags, size_t axis, size_t number, size_t holes[255])
+{
+    size_t stride = 1, count = 0, first = 0;
+    for (size_t below = 1; below < axis; below++)
+        stride *= shape->length[below - 1];
+    size_t len = shape->length[axis - 1];
+    for (size_t before = number + 1; before > 0; first++)
+        before -= first / stride % len == 0;
+    first--;
+    for (size_t i = 0; i < len; i++)
+        if (flags[first + i * stride] == 1)
+            holes[count++] = i;
+    return count;
+}
+
 struct bytes {
     const uint8_t *cube, *flags;
 };

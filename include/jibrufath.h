@@ -47,7 +47,7 @@
 
 /* The version of this interface. The major number grows where a program must be changed or compiled again. */
 #define JIBRUFATH_VERSION_MAJOR 2
-#define JIBRUFATH_VERSION_MINOR 2
+#define JIBRUFATH_VERSION_MINOR 3
 
 #ifdef __cplusplus
 extern "C" {
@@ -56,7 +56,7 @@ extern "C" {
 /* The number in the low byte of an answer. */
 enum jibrufath_answer {
     JIBRUFATH_OK = 0,
-    JIBRUFATH_DIMENSION = 1,          /* a length is not 3 to 255, or an axis is not 1 to 3 */
+    JIBRUFATH_DIMENSION = 1,          /* a length is not 3 to 255, an axis not 1 to 3, or no such line */
     JIBRUFATH_PACKET_SIZE = 2,        /* w is not 1 to 1,024 */
     JIBRUFATH_CUBE_SIZE = 3,          /* w * cells is above 268,435,456 */
     JIBRUFATH_SLICE_LENGTH = 4,       /* a lent slice has not the exact length */
@@ -250,6 +250,21 @@ uint64_t jibrufath_fill(
     uint8_t *cube, uint64_t cube_len,
     uint8_t *flags, uint64_t flags_len,
     uint64_t l1, uint64_t l2, uint64_t l3, uint64_t w);
+
+/* Counts the missing cells of a line up to the third, as filling does: with none the line is known, with one or two it is filled, with
+ * three it forces nothing, and is not read on.
+ *
+ * flags, only read; axis 1, 2 or 3; line, the line's number along the axis from 0, lines counted by the number of their first cell;
+ * counts, which is an array of 2. A cell is missing where its flag is 1, and no flag is refused: those behind the places read do not
+ * matter. OK: counts[0] is how many missing cells were found, at most 3, and counts[1] how many places were read: up to and with the
+ * third of them, or the whole line. Both are written by every call, and both are 0 with a refusal.
+ *
+ * Checks: 1 of the axis or a length, 2, 3; 1 no such line; 4. */
+uint64_t jibrufath_scan(
+    const uint8_t *flags, uint64_t flags_len,
+    uint64_t l1, uint64_t l2, uint64_t l3, uint64_t w,
+    uint64_t axis, uint64_t line,
+    uint64_t counts[2]);
 
 /* One mending pass along an axis: on each line, in each layer, the one wrong byte that the two sums point to is put right. A line
  * whose sums point to no place of it keeps its bytes. A refusal changes nothing. Checks: 1 of a length or the axis, 2, 3, 4. */

@@ -9,10 +9,10 @@
 #include <ucontext.h>
 
 enum { STACK = 1 << 18, PAINT = 0xA5 };
-enum call { NOTHING, ENCODE, EXTRACT, CHECK, FILL, MEND, MEND_AXIS, WRITE_PACK, RECEIVE_PACK, NEEDS, WRITE_TEXT, READ_TEXT, TEXT_SIZES, SIZES,
+enum call { NOTHING, ENCODE, EXTRACT, CHECK, FILL, SCAN, MEND, MEND_AXIS, WRITE_PACK, RECEIVE_PACK, NEEDS, WRITE_TEXT, READ_TEXT, TEXT_SIZES, SIZES,
     FIELD, CALLS };
 
-static const char *const names[CALLS] = {"", "encode", "extract", "is_code_cube", "fill", "mend", "mend_axis", "write_pack", "receive_pack", "needs",
+static const char *const names[CALLS] = {"", "encode", "extract", "is_code_cube", "fill", "scan", "mend", "mend_axis", "write_pack", "receive_pack", "needs",
     "write_text", "read_text", "text sizes", "sizes", "field"};
 
 static const uint64_t shapes[][4] = {{3, 3, 3, 5}, {5, 5, 5, 16}, {4, 4, 4, 63}, {12, 12, 8, 20}, {9, 9, 9, 1024}, {255, 3, 3, 1024},
@@ -35,6 +35,7 @@ static void make_call(void)
     case EXTRACT: answer = jibrufath_extract(cube, bytes, data, capacity, l1, l2, l3, w); break;
     case CHECK: answer = jibrufath_is_code_cube(cube, bytes, l1, l2, l3, w); break;
     case FILL: answer = jibrufath_fill(cube, bytes, flags, cells, l1, l2, l3, w); break;
+    case SCAN: answer = jibrufath_scan(flags, cells, l1, l2, l3, w, 2, l1 * l3 - 1, places); break;
     case MEND: answer = jibrufath_mend(cube, bytes, flags, cells, second, bytes, l1, l2, l3, w); break;
     case MEND_AXIS: answer = jibrufath_mend_axis(cube, bytes, l1, l2, l3, w, 2); break;
     case WRITE_PACK: answer = jibrufath_write_pack(job, job_len, cube, bytes, output, output_len); break;

@@ -5,12 +5,12 @@ use Prim.Native.Nat.{ℕ, zero, suc, _+_, _*_, _≤_, _<_}
 use native.Mathlib.Numerals.{add-one}
 use native.Mathlib.Decide.{ℕ-discrete, decLt}
 use native.Mathlib.Omega.{arith}
-use borrow.Author.Tests.{lt-ltb, le-ltb}
+use borrow.Author.Tests.{lt-ltb, le-ltb, ne-eqb}
 use lib.Dec.{ltb}
 use Rattle.stopping.specs.Stopping.{number, onLine}
 use Rattle.stopping.proofs.Number.{number-nil, number-in, number-out, number-inc, number-all, number-cong, ranked}
 use Rattle.erasures.specs.Scan.{UpToThird, third, whole, found, placesRead}
-use Rattle.erasures.specs.Theorems.{ReadUpToThird, SameDecisions, BehindNotRead}
+use Rattle.erasures.specs.Theorems.{ReadUpToThird, byHoles, SameDecisions, BehindNotRead}
 
 -- no member from place n on
 number-rest : (P : ℕ → Bool) (n len : ℕ) → n ≤ len → ((k : ℕ) → n ≤ k → k < len → P k ≡ false) → number P len ≡ number P n
@@ -88,15 +88,21 @@ module _ (M : ℕ → Bool) (first stride : ℕ) where
       at : {n m read s : ℕ} → n ≡ m → read ≡ s → UpToThird M first stride len n read → UpToThird M first stride len m s
       at {n} {m} {read} {s} e f u = rw (sym e, sym f) u
 
-  -- ---- what follows
+-- ---- what follows
 
-  pub same-decision : {A : Type 0} (decide : ℕ → A) → ((m n : ℕ) → 3 ≤ m → 3 ≤ n → decide m ≡ decide n) → (len : ℕ)
-      → decide (found M first stride len) ≡ decide (onLine M first stride len)
-  same-decision decide alike len =
-      elim (decLt 2 (onLine M first stride len)) [
-        | yes l ↦ alike _ _ (omega (arith, l)) l
-        | no n ↦ ap decide (omega arith)
-      ]
+by-holes-more : {A : Type 0} (none one two more : A) (n : ℕ) → 3 ≤ n → byHoles none one two more n ≡ more
+unfolding byHoles
+by-holes-more none one two more n l = rw (ne-eqb n 0 (omega arith), ne-eqb n 1 (omega arith), ne-eqb n 2 (omega arith))
+
+pub same-decisions : SameDecisions
+unfolding SameDecisions
+same-decisions A none one two more M first stride len =
+    elim (decLt 2 (onLine M first stride len)) [
+      | yes l ↦
+          by-holes-more none one two more (found M first stride len) (omega (arith, l))
+          ∙ sym (by-holes-more none one two more (onLine M first stride len) l)
+      | no n ↦ ap (byHoles none one two more) (omega arith)
+    ]
 
 -- a set that agrees on the places read is read alike
 agreeing : (M N : ℕ → Bool) (first stride len : ℕ) (n read : ℕ) → UpToThird M first stride len n read
@@ -111,10 +117,6 @@ agreeing M N first stride len _ _ (whole few) same =
 pub read-up-to-third : ReadUpToThird
 unfolding ReadUpToThird
 read-up-to-third M first stride len = (reading M first stride len, one-reading M first stride len)
-
-pub same-decisions : SameDecisions
-unfolding SameDecisions
-same-decisions A decide alike M first stride len = same-decision M first stride decide alike len
 
 pub behind-not-read : BehindNotRead
 unfolding BehindNotRead

@@ -1,7 +1,8 @@
 -- What request P2 says of the count that ends at the third hole, as theorems about the definitions.
 use mathlib.Core.Path.{_≡_}
-use mathlib.Core.Bool.{Bool}
-use Prim.Native.Nat.{ℕ, _+_, _*_, _≤_, _<_}
+use mathlib.Core.Bool.{Bool, cond}
+use Prim.Native.Nat.{ℕ, _+_, _*_, _<_}
+use lib.Dec.{eqb}
 use Rattle.stopping.specs.Stopping.{onLine}
 use Rattle.erasures.specs.Scan.{UpToThird, found, placesRead}
 
@@ -13,12 +14,16 @@ ReadUpToThird =
     UpToThird M first stride len (found M first stride len) (placesRead M first stride len)
     × ((n read : ℕ) → UpToThird M first stride len n read → (n ≡ found M first stride len) × (read ≡ placesRead M first stride len))
 
--- "All other answers are the same for every cube": whatever is decided by none, one, two, or more holes is decided alike by the count that ends
--- at the third and by the count of the whole line.
+-- what is decided by none, one, two, or more
+unfoldable pub byHoles : {A : Type 0} → A → A → A → A → ℕ → A
+byHoles none one two more n = cond (eqb n 0) none (cond (eqb n 1) one (cond (eqb n 2) two more))
+
+-- "All other answers are the same for every cube": whatever is decided by none, one or two, or more holes is decided alike by the count that
+-- ends at the third and by the count of the whole line.
 unfoldable pub SameDecisions : Type 1
 SameDecisions =
-    (A : Type 0) (decide : ℕ → A) → ((m n : ℕ) → 3 ≤ m → 3 ≤ n → decide m ≡ decide n) →
-    (M : ℕ → Bool) (first stride len : ℕ) → decide (found M first stride len) ≡ decide (onLine M first stride len)
+    (A : Type 0) (none one two more : A) (M : ℕ → Bool) (first stride len : ℕ) →
+    byHoles none one two more (found M first stride len) ≡ byHoles none one two more (onLine M first stride len)
 
 -- Places behind those read do not matter to the answer.
 unfoldable pub BehindNotRead : Type 0

@@ -20,6 +20,7 @@ mod plot;
 mod programs;
 mod receiving;
 mod repair;
+mod scans;
 mod sweeps;
 mod texts;
 mod widths;
@@ -36,13 +37,14 @@ use crate::measure::ROUNDS;
 const REFERENCE_SET: Shape = Shape::new(69, 69, 25, 397);
 
 /// The names of the tables, in the order in which they are printed.
-const TABLES: [&str; 8] = [
+const TABLES: [&str; 9] = [
     "encoding",
     "repair",
     "receiving",
     "growth",
     "widths",
     "sweeps",
+    "scans",
     "programs",
     "texts",
 ];
@@ -78,6 +80,7 @@ cube that encode has just written, to a buffer that nothing else touches. Buffer
             }
             "widths" => bars.extend(widths::table()?),
             "sweeps" => bars.extend(sweeps::table()?),
+            "scans" => scans::table()?,
             "programs" => programs::table()?,
             _ => texts::table()?,
         }

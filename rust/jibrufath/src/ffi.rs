@@ -86,6 +86,18 @@ unsafe extern "C" {
         w: u64,
     ) -> u64;
 
+    pub fn jibrufath_scan(
+        flags: *const u8,
+        flags_len: u64,
+        l1: u64,
+        l2: u64,
+        l3: u64,
+        w: u64,
+        axis: u64,
+        line: u64,
+        counts: *mut [u64; 2],
+    ) -> u64;
+
     pub fn jibrufath_mend_axis(
         cube: *mut u8,
         cube_len: u64,

@@ -41,6 +41,7 @@ mod needs;
 mod pack;
 mod receive;
 mod refusal;
+mod scan;
 mod shape;
 pub mod text;
 mod write;
@@ -53,6 +54,7 @@ pub use needs::{Needs, needs};
 pub use pack::{AirPack, Packet, Packets, job_pack, packets};
 pub use receive::{Received, Reception, default_limit, receive, receive_pack, receive_within};
 pub use refusal::Refusal;
+pub use scan::{Scan, scan};
 pub use shape::Shape;
 pub use write::{write, write_pack};
 

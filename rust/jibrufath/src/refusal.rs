@@ -10,12 +10,12 @@ use std::fmt;
 /// let refusal = Shape::new(2, 3, 3, 1).check().unwrap_err();
 /// assert_eq!(refusal, Refusal::Dimension);
 /// assert_eq!(refusal.number(), 1);
-/// assert_eq!(refusal.to_string(), "refused 1: a length is not 3 to 255, or an axis number not 1 to 3");
+/// assert_eq!(refusal.to_string(), "refused 1: a length is not 3 to 255, an axis number not 1 to 3, or there is no such line");
 /// ```
 #[derive(Clone, Copy, Debug, PartialEq, Eq, Hash)]
 #[non_exhaustive]
 pub enum Refusal {
-    /// 1: a length is not 3 to 255; in a call that takes one, an axis number is not 1 to 3.
+    /// 1: a length is not 3 to 255; in a call that takes one, an axis number is not 1 to 3, or the axis has no such line.
     Dimension,
     /// 2: W is not 1 to 1,024.
     PacketSize,
@@ -146,7 +146,9 @@ impl Refusal {
 impl fmt::Display for Refusal {
     fn fmt(&self, f: &mut fmt::Formatter<'_>) -> fmt::Result {
         let meaning = match self {
-            Refusal::Dimension => "a length is not 3 to 255, or an axis number not 1 to 3",
+            Refusal::Dimension => {
+                "a length is not 3 to 255, an axis number not 1 to 3, or there is no such line"
+            }
             Refusal::PacketSize => "W is not 1 to 1,024",
             Refusal::CubeSize => "W × cells is above 268,435,456",
             Refusal::SliceLength => "a lent slice has not the exact length",

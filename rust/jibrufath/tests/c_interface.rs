@@ -14,11 +14,12 @@ a pack of another shape: no room for a cube of 265302000 bytes
 ";
 
 /// The stack that each call may take, in bytes, as the header says.
-const STACK: [(&str, usize); 14] = [
+const STACK: [(&str, usize); 15] = [
     ("encode", 12_000),
     ("extract", 1_000),
     ("is_code_cube", 12_000),
     ("fill", 40_000),
+    ("scan", 1_000),
     ("mend", 20_000),
     ("mend_axis", 20_000),
     ("write_pack", 12_000),
@@ -106,7 +107,7 @@ fn the_header_declares_what_is_exported() {
     let mut declared: Vec<String> = header.split(';').filter_map(declaration).collect();
     declared.sort();
     assert_eq!(declared, exported());
-    assert_eq!(declared.len(), 20);
+    assert_eq!(declared.len(), 21);
 }
 
 #[test]
@@ -166,6 +167,7 @@ fn prototype(signature: &str) -> String {
     declared(signature, |name, kind| match kind {
         "&[u8]" => format!("const uint8_t *{name}, uint64_t {name}_len"),
         "&mut [u8]" => format!("uint8_t *{name}, uint64_t {name}_len"),
+        "&mut [u64; 2]" => format!("uint64_t {name}[2]"),
         "&mut [u64; 16]" => format!("uint64_t {name}[16]"),
         "usize" => format!("uint64_t {name}"),
         _ => format!("{} {name}", number(kind)),
@@ -177,6 +179,7 @@ fn declaration_in_c(signature: &str) -> String {
     declared(signature, |name, kind| match kind {
         "*const u8" => format!("const uint8_t *{name}"),
         "*mut u8" => format!("uint8_t *{name}"),
+        "*mut [u64; 2]" => format!("uint64_t {name}[2]"),
         "*mut [u64; 16]" => format!("uint64_t {name}[16]"),
         _ => format!("{} {name}", number(kind)),
     })
