@@ -1,16 +1,20 @@
 -- The count that ends at the third erasure (request P2): what it finds, which places it reads, and what follows.
-use mathlib.Core.Path.{_≡_, refl, sym, ap, _∙_, subst}
+use mathlib.Core.Path.{_≡_, refl, sym, ap, ap₂, _∙_, subst}
 use mathlib.Core.Bool.{Bool, true, false}
 use Prim.Native.Nat.{ℕ, zero, suc, _+_, _*_, _≤_, _<_}
 use native.Mathlib.Numerals.{add-one}
 use native.Mathlib.Decide.{ℕ-discrete, decLt}
 use native.Mathlib.Omega.{arith}
 use borrow.Author.Tests.{lt-ltb, le-ltb, ne-eqb}
-use lib.Dec.{ltb}
+use lib.Dec.{eqb, ltb}
+use lib.ListN.{length}
+use Rattle.answer.specs.Values.{passes, check, andThen}
+use Rattle.shape.specs.Shapes.{cells}
+use Rattle.shape.specs.Flags.{missing}
 use Rattle.stopping.specs.Stopping.{number, onLine}
 use Rattle.stopping.proofs.Number.{number-nil, number-in, number-out, number-inc, number-all, number-cong, ranked}
-use Rattle.erasures.specs.Scan.{UpToThird, third, whole, found, placesRead}
-use Rattle.erasures.specs.Theorems.{ReadUpToThird, byHoles, SameDecisions, BehindNotRead}
+use Rattle.erasures.specs.Scan.{UpToThird, third, whole, found, placesRead, scanned, scanOf}
+use Rattle.erasures.specs.Theorems.{ReadUpToThird, byHoles, SameDecisions, BehindNotRead, AnswersAlike}
 
 -- no member from place n on
 number-rest : (P : ℕ → Bool) (n len : ℕ) → n ≤ len → ((k : ℕ) → n ≤ k → k < len → P k ≡ false) → number P len ≡ number P n
@@ -122,3 +126,10 @@ pub behind-not-read : BehindNotRead
 unfolding BehindNotRead
 behind-not-read M N first stride len same =
     one-reading N first stride len _ _ (agreeing M N first stride len _ _ (reading M first stride len) same)
+
+pub answers-alike : AnswersAlike
+unfolding AnswersAlike BehindNotRead scanOf scanned andThen missing
+answers-alike fs gs sh axis m l size line same =
+    let (n, read) =
+    behind-not-read (missing fs) (missing gs) (l .first) (l .stride) (l .len) (λ k less. ap (λ (f : ℕ). eqb f 1) (same k less)) in
+    rw (line, size) (ap₂ (λ (e r : ℕ). check (eqb (length gs) (cells sh)) 4 (passes (record { erasures = e; read = r }))) n read)

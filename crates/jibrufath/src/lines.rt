@@ -1,7 +1,6 @@
 // The call on a line.
 use erasures::ScanAnswer;
 use shape::Shape;
-ghost use mathlib.Core.Path.{_≡_};
 ghost use Rattle.erasures.specs.Scan.{scanOf};
 ghost use Rattle.jibrufath.specs.Exports.{shape};
 ghost use Rattle.jibrufath.specs.Lines.{ScanExport};

@@ -1,5 +1,4 @@
 -- `jibrufath::lines::jibrufath_scan` meets its contract.
-use mathlib.Core.Path.{_≡_}
 use borrow.Author.Needs.{needs}
 use Rattle.answer.proofs.Values.{checked-fails}
 use Rattle.erasures.proofs.Determined.{scan-told, scan-refused}
