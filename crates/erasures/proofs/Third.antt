@@ -1,9 +1,9 @@
 -- The count that ends at the third erasure (request P2): what it finds, which places it reads, and what follows.
-use mathlib.Core.Path.{_≡_, refl, sym, ap, ap₂, _∙_, subst}
-use mathlib.Core.Bool.{Bool, true, false}
-use Prim.Native.Nat.{ℕ, zero, suc, _+_, _*_, _≤_, _<_}
+use mathlib.Core.Path.{_≡_, sym, ap, ap₂, _∙_, subst}
+use mathlib.Core.Bool.{Bool, true}
+use Prim.Native.Nat.{ℕ, _+_, _*_, _≤_, _<_}
 use native.Mathlib.Numerals.{add-one}
-use native.Mathlib.Decide.{ℕ-discrete, decLt}
+use native.Mathlib.Decide.{decLt}
 use native.Mathlib.Omega.{arith}
 use borrow.Author.Tests.{lt-ltb, le-ltb, ne-eqb}
 use lib.Dec.{eqb, ltb}
@@ -12,19 +12,9 @@ use Rattle.answer.specs.Values.{passes, check, andThen}
 use Rattle.shape.specs.Shapes.{cells}
 use Rattle.shape.specs.Flags.{missing}
 use Rattle.stopping.specs.Stopping.{number, onLine}
-use Rattle.stopping.proofs.Number.{number-nil, number-in, number-out, number-inc, number-all, number-cong, ranked}
+use Rattle.stopping.proofs.Number.{number-nil, number-in, number-inc, number-all, number-cong, number-rest, ranked}
 use Rattle.erasures.specs.Scan.{UpToThird, third, whole, found, placesRead, scanned, scanOf}
 use Rattle.erasures.specs.Theorems.{ReadUpToThird, byHoles, SameDecisions, BehindNotRead, AnswersAlike}
-
--- no member from place n on
-number-rest : (P : ℕ → Bool) (n len : ℕ) → n ≤ len → ((k : ℕ) → n ≤ k → k < len → P k ≡ false) → number P len ≡ number P n
-number-rest P n zero le h = let e : n ≡ 0 = omega arith in rw e refl
-number-rest P n (suc len) le h =
-    elim (ℕ-discrete n (suc len)) [
-      | yes e ↦ rw e refl
-      | no ne ↦
-          number-out P len (h len (omega arith) (omega arith)) ∙ number-rest P n len (omega arith) (λ k l m. h k l (omega arith))
-    ]
 
 module _ (M : ℕ → Bool) (first stride : ℕ) where
   -- ---- the places read, place after place

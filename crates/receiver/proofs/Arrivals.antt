@@ -5,11 +5,13 @@ use mathlib.Core.List.{List}
 use mathlib.Core.Logic.{_≢_}
 use Prim.Native.Nat.{ℕ, zero, suc, _+_, _*_, _≤_, _<_}
 use native.Mathlib.Decide.{ℕ-discrete, decLt}
+use native.Mathlib.Nat.{add-zero}
 use native.Mathlib.Numerals.{add-one}
 use native.Mathlib.Omega.{arith}
 use lib.ListN.{length, getD, set, replicate, length-set, length-replicate, getD-replicate}
 use lib.Seq.{getD-set-same, getD-set-other}
 use borrow.Author.Tests.{eq-eqb, ne-eqb}
+use Rattle.span.proofs.Copying.{copied-none, copied-more}
 use Rattle.span.proofs.Stretches.{stretch-end}
 use Rattle.span.proofs.Differing.{differing-byte}
 use Rattle.span.specs.Decision.{Decides}
@@ -18,12 +20,12 @@ use Rattle.shape.specs.declared.Shape.{Shape}
 use Rattle.shape.specs.Shapes.{cells}
 use Rattle.data.specs.Data.{layer}
 use Rattle.stopping.specs.Stopping.{number}
-use Rattle.stopping.proofs.Number.{number-nil, number-le}
+use Rattle.stopping.proofs.Number.{number-nil, number-le, number-rest}
 use Rattle.pack.specs.Packets.{Source}
 use Rattle.receiver.specs.Placing.{Conflicting, among, repeatsOf, flagAt, Placed}
 use Rattle.receiver.specs.declared.placing.Placing.{Placing}
 use Rattle.receiver.specs.declared.placing.Placing.the-variants.{Repeats, Differs}
-use Rattle.receiver.specs.Inner.Placing.{First, Compared, Placement}
+use Rattle.receiver.specs.Inner.Placing.{First, AllNew, Compared, Placement}
 use Rattle.receiver.proofs.Bytes.{clash}
 
 -- ---- cells that the first packets name
@@ -123,9 +125,6 @@ pub repeats-le : (s : Source) (n : ℕ) → repeatsOf s n ≤ n
 unfolding repeatsOf
 repeats-le s n = number-le _ n
 
-pub repeats-new : (s : Source) (n r : ℕ) → r ≡ repeatsOf s n → among s n (s .place n) ≡ false → r ≡ repeatsOf s (n + 1)
-repeats-new s n r a b = omega (arith, rw b at (repeats-more s n))
-
 pub repeats-again : (s : Source) (n r : ℕ) → r ≡ repeatsOf s n → among s n (s .place n) ≡ true → r + 1 ≡ repeatsOf s (n + 1)
 repeats-again s n r a b = omega (arith, rw b at (repeats-more s n))
 
@@ -152,6 +151,12 @@ kept-bytes sh src xs ys from m k w h ne l =
 -- the bytes of a cell lie inside the cube
 pub cell-inside : (sh : Shape) (m bytes : ℕ) → m < cells sh → bytes ≡ sh .w * cells sh → m * sh .w + sh .w ≤ bytes
 cell-inside sh m bytes l size = omega (arith, stretch-end m (cells sh) (sh .w) l)
+
+-- so does the single byte of one
+pub byte-inside : (sh : Shape) (m bytes : ℕ) → m < cells sh → bytes ≡ sh .w * cells sh → sh .w ≡ 1 → m < bytes
+byte-inside sh m bytes l size one =
+    let end : m * 1 + 1 ≤ bytes = subst (λ (w : ℕ). m * w + w ≤ bytes) one (cell-inside sh m bytes l size) in
+    omega arith
 
 -- no earlier packet names a cell that is new
 apart : (s : Source) (i : ℕ) → among s i (s .place i) ≡ false → (k : ℕ) → k < i → s .place k ≢ s .place i
@@ -193,6 +198,13 @@ module _ (sh : Shape) (s : Source) (i : ℕ) (xs fs : List ℕ) (placed : Placed
         );
         known = λ e. absurd (true≢false e);
       }
+
+  -- the same where a cell is one byte
+  pub placed-byte : (src : List ℕ) (from : ℕ) → sh .w ≡ 1 → ((w : ℕ) → w < sh .w → getD src (from + w) 0 ≡ s .byte i w) → getD fs m 0 ≡ 1
+      → m < length xs → First sh s i xs fs (set xs m (getD src from 0)) (set fs m 0) true
+  placed-byte src from one read missing-yet l =
+      placed-first src (set xs m (getD src from 0)) from read missing-yet
+      (rw one (copied-more src xs xs from (m * 1) 0 m _ (omega arith) (ap (λ (p : ℕ). getD src p 0) (sym (add-zero from))) l (copied-none _ _ _ _)))
 
   -- a cell that is known
   pub placed-known : (getD fs m 0 ≡ 1 → ⊥) → First sh s i xs fs xs fs false
@@ -256,7 +268,79 @@ module _ (sh : Shape) (s : Source) (i : ℕ) (xs fs : List ℕ) (placed : Placed
         other = λ equal. ne (earlier-byte j w l same h ∙ equal);
       }
 
+-- ---- packets that are all new, from i on
+
+abbrev pub New : Source → ℕ → ℕ → Type 0
+New s i j = (k : ℕ) → i ≤ k → k < j → among s k (s .place k) ≡ false
+
+pub new-more : (s : Source) (i j : ℕ) → New s i j → among s j (s .place j) ≡ false → New s i (j + 1)
+new-more s i j h e k l m =
+    elim (ℕ-discrete k j) [
+      | yes same ↦ rw same e
+      | no ne ↦ h k l (omega arith)
+    ]
+
+module _ (sh : Shape) (s : Source) (n i : ℕ) where
+  -- packet j had come before
+  pub new-up-to : (j : ℕ) (xs fs ys gs : List ℕ) (answer : Bool) → i ≤ j → j < n → New s i j → Placed sh s j xs fs → First sh s j xs fs ys gs answer
+      → answer ≡ false → AllNew sh s n i j ys gs
+  new-up-to j xs fs ys gs answer low less h placed f e =
+      record {
+        low = low;
+        high = omega arith;
+        placed = copy-placed sh s j xs fs ys gs answer f e placed;
+        new = h;
+        came = λ l. f .known e .0;
+      }
+
+  module _ (j : ℕ) (xs fs : List ℕ) (a : AllNew sh s n i j xs fs) where
+    -- none of them repeats another, and none differs
+    pub new-repeats : repeatsOf s j ≡ repeatsOf s i
+    unfolding repeatsOf
+    new-repeats = number-rest _ i j (a .low) (a .new)
+
+    pub new-agree : ((k : ℕ) → k < i → Conflicting sh s k → ⊥) → (k : ℕ) → k < j → Conflicting sh s k → ⊥
+    new-agree h k l =
+        elim (decLt k i) [
+          | yes less ↦ h k less
+          | no more ↦ first-agrees sh s k (a .new k (omega arith) l)
+        ]
+
 -- ---- all packets
+
+-- the packets before i are placed and agree, r of them are repeats, and so is packet i, where there is one
+pub record Counted (sh : Shape) (s : Source) (n r i : ℕ) (xs fs : List ℕ) : Type 0 where
+  pub high : i ≤ n
+  pub repeats : r ≡ repeatsOf s i
+  pub placed : Placed sh s i xs fs
+  pub agree : (k : ℕ) → k < i → Conflicting sh s k → ⊥
+  pub came : i < n → among s i (s .place i) ≡ true
+
+pub counted-new : (sh : Shape) (s : Source) (n r i j : ℕ) (xs fs : List ℕ) → r ≡ repeatsOf s i → ((k : ℕ) → k < i → Conflicting sh s k → ⊥)
+    → AllNew sh s n i j xs fs → Counted sh s n r j xs fs
+counted-new sh s n r i j xs fs e agree a =
+    record {
+      high = a .high;
+      repeats = e ∙ sym (new-repeats sh s n i j xs fs a);
+      placed = a .placed;
+      agree = new-agree sh s n i j xs fs a agree;
+      came = a .came;
+    }
+
+module _ (sh : Shape) (s : Source) (n r i : ℕ) (xs fs : List ℕ) (c : Counted sh s n r i xs fs) (less : i < n) where
+  -- a copy that agrees, and what is new behind it
+  module _ (same : (w : ℕ) → w < sh .w → layer sh xs w (s .place i) ≡ s .byte i w) where
+    pub counted-placed : Placed sh s (i + 1) xs fs
+    counted-placed = placed-again sh s i xs fs (c .placed) (c .came less) same
+
+    pub counted-again : (j : ℕ) (ys gs : List ℕ) → AllNew sh s n (i + 1) j ys gs → Counted sh s n (r + 1) j ys gs
+    counted-again j ys gs =
+        counted-new sh s n (r + 1) (i + 1) j ys gs (repeats-again s i r (c .repeats) (c .came less))
+        (none-more sh s i (c .agree) (again-agrees sh s i xs fs (c .placed) same))
+
+  -- one that differs
+  pub counted-differs : (w : ℕ) × (w < sh .w) × (layer sh xs w (s .place i) ≢ s .byte i w) → Placement sh s n xs fs (Differs i)
+  counted-differs other = Placement.differs i less (again-differs sh s i xs fs (c .placed) (c .came less) other) (c .agree)
 
 pub placement-all : (sh : Shape) (s : Source) (n r : ℕ) (ys gs : List ℕ) → r ≡ repeatsOf s n → Placed sh s n ys gs
     → ((i : ℕ) → i < n → Conflicting sh s i → ⊥) → Placement sh s n ys gs (Repeats r)

@@ -3,14 +3,13 @@ use pack::Header;
 use pack::PacketRead;
 use pack::Section;
 ghost use mathlib.Core.Path.{_≡_};
-ghost use Prim.Native.Nat.{ℕ, _+_, _*_, _<_, _≤_};
+ghost use Prim.Native.Nat.{ℕ, _*_, _<_};
 ghost use lib.ListN.{length, replicate};
-ghost use Rattle.span.specs.Span.{Copied};
 ghost use Rattle.shape.specs.Shapes.{Valid, cells};
 ghost use Rattle.pack.specs.Packets.{source, Named};
 ghost use Rattle.receiver.specs.declared.placing.Placing.the-variants.{Differs};
 ghost use Rattle.receiver.specs.Placing.{Placed};
-ghost use Rattle.receiver.specs.Inner.Placing.{First, Compared, Placement};
+ghost use Rattle.receiver.specs.Inner.Placing.{First, Placeable, AllNew, Compared, Placement};
 
 // The repeats, or the index of the first packet that differs from an earlier copy.
 pub(crate) enum Placing {
@@ -45,22 +44,85 @@ fn place_packets(air: &[u8], cube: &mut [u8], flags: &mut [u8], h: Header, s: Se
 {
     let n = s.count;
     let mut repeats = 0;
-    let mut i = 0;
+    let mut i = place_new(air, cube, flags, h, s, 0);
     while i < n {
-        if !place_first(air, cube, flags, h, s, i) {
-            if !agrees(air, cube, h, s, i) {
-                return Placing::Differs(i);
-            }
-            repeats += 1;
+        if !agrees(air, cube, h, s, i) {
+            return Placing::Differs(i);
         }
-        i += 1;
+        repeats += 1;
+        i = place_new(air, cube, flags, h, s, i + 1);
     }
     Placing::Repeats(repeats)
 }
 
-// Places a packet whose cell is still missing. False, and nothing changed, where a copy came before. Most packets are the first of their
-// cell: for them this is all that is done.
-fn place_first(
+// Places packets from one on, up to the first whose cell had come before: its index, or the count where there is none. Most packets are new,
+// and of a single byte the copy would cost more than all else, so that these have a loop of their own.
+fn place_new(
+    air: &[u8],
+    cube: &mut [u8],
+    flags: &mut [u8],
+    h: Header,
+    s: Section,
+    from: usize,
+) -> usize
+    requires { ⌜ Placeable (now air) h s from (now cube) (now flags) ⌝ }
+    ensures { λ r. ⌜ AllNew (h .shape) (source (now (air .entry)) h s) (s .count) from r (now (cube .exit)) (now (flags .exit)) ⌝ }
+{
+    let sh = h.shape;
+    if sh.w == 1 {
+        place_bytes(air, cube, flags, h, s, from)
+    } else {
+        place_cells(air, cube, flags, h, s, from)
+    }
+}
+
+fn place_cells(
+    air: &[u8],
+    cube: &mut [u8],
+    flags: &mut [u8],
+    h: Header,
+    s: Section,
+    from: usize,
+) -> usize
+    requires { ⌜ Placeable (now air) h s from (now cube) (now flags) ⌝ }
+    ensures { λ r. ⌜ AllNew (h .shape) (source (now (air .entry)) h s) (s .count) from r (now (cube .exit)) (now (flags .exit)) ⌝ }
+{
+    let n = s.count;
+    let mut i = from;
+    while i < n {
+        if !place_cell(air, cube, flags, h, s, i) {
+            return i;
+        }
+        i += 1;
+    }
+    i
+}
+
+fn place_bytes(
+    air: &[u8],
+    cube: &mut [u8],
+    flags: &mut [u8],
+    h: Header,
+    s: Section,
+    from: usize,
+) -> usize
+    requires { ⌜ Placeable (now air) h s from (now cube) (now flags) ⌝ }
+    requires { ⌜ h .shape .w ≡ 1 ⌝ }
+    ensures { λ r. ⌜ AllNew (h .shape) (source (now (air .entry)) h s) (s .count) from r (now (cube .exit)) (now (flags .exit)) ⌝ }
+{
+    let n = s.count;
+    let mut i = from;
+    while i < n {
+        if !place_byte(air, cube, flags, h, s, i) {
+            return i;
+        }
+        i += 1;
+    }
+    i
+}
+
+// Places a packet whose cell is still missing. False, and nothing changed, where a copy came before.
+fn place_cell(
     air: &[u8],
     cube: &mut [u8],
     flags: &mut [u8],
@@ -80,7 +142,32 @@ fn place_first(
     if flags[m] != 1 {
         return false;
     }
-    put(air, cube, from, m * w, w);
+    span::copy(air, cube, from, m * w, w);
+    flags[m] = 0;
+    true
+}
+
+// The same where a cell is a single byte.
+fn place_byte(
+    air: &[u8],
+    cube: &mut [u8],
+    flags: &mut [u8],
+    h: Header,
+    s: Section,
+    i: usize,
+) -> bool
+    requires { ⌜ Valid (h .shape) × Named (now air) h s i × Placed (h .shape) (source (now air) h s) i (now cube) (now flags) ⌝ }
+    requires { ⌜ h .shape .w ≡ 1 ⌝ }
+    ensures { λ r. ⌜ First (h .shape) (source (now (air .entry)) h s) i (now (cube .entry)) (now (flags .entry)) (now (cube .exit)) (now (flags .exit)) r ⌝ }
+{
+    let read = pack::packet(air, h, s, i);
+    let PacketRead::Names(m, from) = read else {
+        return false;
+    };
+    if flags[m] != 1 {
+        return false;
+    }
+    cube[m] = air[from];
     flags[m] = 0;
     true
 }
@@ -97,16 +184,4 @@ fn agrees(air: &[u8], cube: &[u8], h: Header, s: Section, i: usize) -> bool
         return false;
     };
     span::same(air, cube, from, m * w, w)
-}
-
-// Copies a packet's bytes to its cell. A single byte, where the copy costs more than the byte, is taken by itself.
-fn put(air: &[u8], cube: &mut [u8], from: usize, to: usize, w: usize)
-    requires { ⌜ (from + w ≤ length (now air)) × (to + w ≤ length (now cube)) ⌝ }
-    ensures { λ r. ⌜ Copied (now (air .entry)) from (now (cube .entry)) to w (now (cube .exit)) ⌝ }
-{
-    if w == 1 {
-        cube[to] = air[from];
-    } else {
-        span::copy(air, cube, from, to, w);
-    }
 }

@@ -63,6 +63,16 @@ pub number-none : (P : ℕ → Bool) (n : ℕ) → ((i : ℕ) → i < n → P i 
 number-none P zero h = number-nil P
 number-none P (suc n) h = number-out P n (h n (omega arith)) ∙ number-none P n (λ i l. h i (omega arith))
 
+-- no member from n on
+pub number-rest : (P : ℕ → Bool) (n len : ℕ) → n ≤ len → ((k : ℕ) → n ≤ k → k < len → P k ≡ false) → number P len ≡ number P n
+number-rest P n zero le h = let e : n ≡ 0 = omega arith in rw e refl
+number-rest P n (suc len) le h =
+    elim (ℕ-discrete n (suc len)) [
+      | yes e ↦ rw e refl
+      | no ne ↦
+          number-out P len (h len (omega arith) (omega arith)) ∙ number-rest P n len (omega arith) (λ k l m. h k l (omega arith))
+    ]
+
 -- ---- ranks
 
 pub number-inc : (P : ℕ → Bool) (i n : ℕ) → i ≤ n → number P i ≤ number P n

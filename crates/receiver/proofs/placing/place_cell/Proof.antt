@@ -1,4 +1,4 @@
--- `place_first` makes a missing cell known, and leaves all as it is where the cell is known.
+-- `place_cell` makes a missing cell known, and leaves all as it is where the cell is known.
 use native.Mathlib.Omega.{arith}
 use Prim.Native.Nat.{ℕ, _+_, _*_, _≤_, _<_}
 use lib.ListN.{length}
@@ -6,8 +6,8 @@ use Rattle.shape.specs.Shapes.{cells}
 use Rattle.pack.proofs.Naming.{Told, packet-told, packet-absent, place-lt}
 use Rattle.receiver.proofs.Arrivals.{cell-inside, placed-first, placed-known}
 use borrow.Author.Needs.{needs}
-use Rattle.receiver.proofs.placing.place_first.Statement.{statement}
-use Rattle.receiver.proofs.placing.place_first.Tie as tie
+use Rattle.receiver.proofs.placing.place_cell.Statement.{statement}
+use Rattle.receiver.proofs.placing.place_cell.Tie as tie
 
 abbrev start : tie.After-read → tie.Start
 start c = c .before .before .before .before .before .before .before
@@ -52,15 +52,13 @@ returns-2 c =
     let k = c .before .before .before in
     placed-known _ _ _ _ _ (start k .pre .2) _ (told k .cell) (below k) (c .if1 .taken)
 
-mul-put : tie.Need-mul-put
-mul-put c =
+mul-copy : tie.Need-mul-copy
+mul-copy c =
     let k = c .before .before .before .before in
     omega (arith, inside k, start k .pre .2 .cube-size, start k .pre .0 .volume)
 
-put-requires : tie.Need-put-requires
-put-requires c κs =
-    let k = c .before .before .before .before in
-    (told k .inside, inside k .1)
+copy-requires : tie.Need-copy-requires
+copy-requires c κs = tt
 
 slice-write-flags : tie.Need-slice-write-flags
 slice-write-flags c = inside (c .before .before .before .before .before .before .before) .0
@@ -75,10 +73,10 @@ returns-3 : tie.Need-returns-3
 returns-3 c =
     let k = c .before .before .before .before .before .before .before in
     placed-first _ _ _ _ _ (start k .pre .2) _ (told k .cell) (below k) _ _ _ (λ w l. told k .byte w) (c .before .before .before .before .if1 .left)
-    (c .before .before .put .ensures)
+    (c .before .before .copy .ensures .done (told k .inside, inside k .1) .1)
 
-pub place-first-spec : {M : Type 1} → statement M
-place-first-spec =
+pub place-cell-spec : {M : Type 1} → statement M
+place-cell-spec =
     tie.close
     (tie.spec
     packet-requires
@@ -87,8 +85,8 @@ place-first-spec =
     returns
     slice-read-if1
     returns-2
-    mul-put
-    put-requires
+    mul-copy
+    copy-requires
     slice-write-flags
     same-length
     same-length-2
