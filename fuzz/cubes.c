@@ -82,12 +82,12 @@ void fuzz_scan(struct input input, uint8_t choice)
     int is_line = is_axis && line < lines, exact = flags.len == cells_of(&shape);
     require(answer == (is_line ? exact ? JIBRUFATH_OK : JIBRUFATH_SLICE_LENGTH : JIBRUFATH_DIMENSION), "the order of a scan's checks");
     if (answer != JIBRUFATH_OK) {
-        require(counts[0] == 0 && counts[1] == 0, "no counts with a refusal");
+        require(counts[JIBRUFATH_SCAN_ERASURES] == 0 && counts[JIBRUFATH_SCAN_READ] == 0, "no counts with a refusal");
         return;
     }
     size_t all = holes_of(&shape, flags.bytes, axis, line, holes);
-    require(counts[0] == (all < 3 ? all : 3), "the holes, at most three");
-    require(counts[1] == (all < 3 ? l[axis - 1] : holes[2] + 1), "the places read");
+    require(counts[JIBRUFATH_SCAN_ERASURES] == (all < 3 ? all : 3), "the holes, at most three");
+    require(counts[JIBRUFATH_SCAN_READ] == (all < 3 ? l[axis - 1] : holes[2] + 1), "the places read");
 }
 
 void fuzz_mend(struct input input, uint8_t choice)

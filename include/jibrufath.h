@@ -251,13 +251,19 @@ uint64_t jibrufath_fill(
     uint8_t *flags, uint64_t flags_len,
     uint64_t l1, uint64_t l2, uint64_t l3, uint64_t w);
 
+/* The places in the counts of a scan. */
+enum jibrufath_scan_place {
+    JIBRUFATH_SCAN_ERASURES = 0,      /* the missing cells found, at most 3 */
+    JIBRUFATH_SCAN_READ = 1           /* the places read */
+};
+
 /* Counts the missing cells of a line up to the third, as filling does: with none the line is known, with one or two it is filled, with
  * three it forces nothing, and is not read on.
  *
  * flags, only read; axis 1, 2 or 3; line, the line's number along the axis from 0, lines counted by the number of their first cell;
  * counts, which is an array of 2. A cell is missing where its flag is 1, and no flag is refused: those behind the places read do not
- * matter. OK: counts[0] is how many missing cells were found, at most 3, and counts[1] how many places were read: up to and with the
- * third of them, or the whole line. Both are written by every call, and both are 0 with a refusal.
+ * matter. OK: the counts are how many missing cells were found, at most 3, and how many places were read: up to and with the third of
+ * them, or the whole line. Both are written by every call, and both are 0 with a refusal.
  *
  * Checks: 1 of the axis or a length, 2, 3; 1 no such line; 4. */
 uint64_t jibrufath_scan(

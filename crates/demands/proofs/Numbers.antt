@@ -57,22 +57,23 @@ module _ (n : ℕ) where
   unfolding sizeChecked
   size-number sh = then-number (Plain shapeNumbers) n _ _ (shape-number sh) (λ z. passes-number (Plain shapeNumbers) n (packSize sh))
 
+  -- 1 of the axis or the line, and the numbers of the shape
+  line-fails : (P : ℕ → Type 0) → P 1 → P 2 → P 3 → (sh : Shape) (axis m : ℕ) → lineOf sh axis m ≡ fails n → P n
+  unfolding lineOf lineIn
+  line-fails P one two three sh axis m =
+      check-number P n _ 1 _ one (then-number P n _ _ (shape-fails P n one two three sh) (λ z. check-number P n _ 1 _ one (passes-number P n _)))
+
   pub line-number : (sh : Shape) (axis m : ℕ) → lineOf sh axis m ≡ fails n → Plain shapeNumbers n
-  unfolding lineOf lineIn isPlain isOneOf placed keeping both shapeNumbers
-  line-number sh axis m =
-      let P = Plain shapeNumbers in
-      let one = plain shapeNumbers 1 refl in
-      check-number P n _ 1 _ one (then-number P n _ _ (shape-number sh) (λ z. check-number P n _ 1 _ one (passes-number P n _)))
+  unfolding isPlain isOneOf placed keeping both shapeNumbers
+  line-number sh axis m e = plain shapeNumbers n (line-fails (Test shapeNumbers) refl refl refl sh axis m e)
 
   -- those of a line, then 4
   pub scan-number : (fs : List ℕ) (sh : Shape) (axis m : ℕ) → scanOf fs sh axis m ≡ fails n → Plain cubeNumbers n
-  unfolding scanOf lineOf lineIn isPlain isOneOf placed keeping both cubeNumbers
+  unfolding scanOf isPlain isOneOf placed keeping both cubeNumbers
   scan-number fs sh axis m e =
       let P = Test cubeNumbers in
       plain cubeNumbers n
-      (then-number P n _ _
-      (check-number P n _ 1 _ refl (then-number P n _ _ (shape-fails P n refl refl refl sh) (λ z. check-number P n _ 1 _ refl (passes-number P n _))))
-      (λ l. check-number P n _ 4 _ refl (passes-number P n _)) e)
+      (then-number P n _ _ (line-fails P refl refl refl sh axis m) (λ l. check-number P n _ 4 _ refl (passes-number P n _)) e)
 
   -- 1, 2, 3 of the shape, then 4 by a test of its sizes
   slices-fail : (test : Sizes → Bool) (sh : Shape)

@@ -11,7 +11,7 @@ use Rattle.stopping.proofs.Number.{number-nil, number-in, number-out, number-in
 use Rattle.erasures.specs.Erasures.{Scanned}
 
 module _ (M : ℕ → Bool) (start stride : ℕ) where
-  line-in : (n : ℕ) → M (start + stride * n) ≡ true → onLine M start stride (n + 1) ≡ onLine M start stride n + 1
+  pub line-in : (n : ℕ) → M (start + stride * n) ≡ true → onLine M start stride (n + 1) ≡ onLine M start stride n + 1
   unfolding onLine
   line-in n e = ap (number (λ i. M (start + stride * i))) (add-one n) ∙ number-in (λ i. M (start + stride * i)) n e
 
@@ -27,7 +27,7 @@ module _ (M : ℕ → Bool) (start stride : ℕ) where
   unfolding onLine
   line-empty n e = number-zero (λ i. M (start + stride * i)) n e
 
-  line-longer : (n len : ℕ) → n ≤ len → onLine M start stride n ≤ onLine M start stride len
+  pub line-longer : (n len : ℕ) → n ≤ len → onLine M start stride n ≤ onLine M start stride len
   unfolding onLine
   line-longer n len le = number-inc (λ i. M (start + stride * i)) n len le
 

@@ -12,8 +12,9 @@ use Rattle.answer.specs.Values.{passes, check, andThen}
 use Rattle.shape.specs.Shapes.{cells}
 use Rattle.shape.specs.Flags.{missing}
 use Rattle.stopping.specs.Stopping.{number, onLine}
-use Rattle.stopping.proofs.Number.{number-nil, number-in, number-inc, number-all, number-cong, number-rest, ranked}
+use Rattle.stopping.proofs.Number.{number-nil, number-in, number-all, number-cong, number-rest, ranked}
 use Rattle.erasures.specs.Scan.{UpToThird, third, whole, found, placesRead, scanned, scanOf}
+use Rattle.erasures.proofs.Scanning.{line-in, line-longer}
 use Rattle.erasures.specs.Theorems.{ReadUpToThird, byHoles, SameDecisions, BehindNotRead, AnswersAlike}
 
 module _ (M : ℕ → Bool) (first stride : ℕ) where
@@ -32,33 +33,25 @@ module _ (M : ℕ → Bool) (first stride : ℕ) where
 
   -- and none behind the third
   pub read-ends : (n len : ℕ) → n ≡ placesRead M first stride n → 3 ≤ onLine M first stride n → n ≤ len → n ≡ placesRead M first stride len
-  unfolding placesRead onLine
+  unfolding placesRead
   read-ends n len e three le =
-      e ∙ sym (number-rest _ n len le (λ k l m. le-ltb (onLine M first stride k) 3 (omega (arith, three, number-inc (λ i. M (first + stride * i)) n k l))))
+      e ∙ sym (number-rest _ n len le (λ k l m. le-ltb (onLine M first stride k) 3 (omega (arith, three, line-longer M first stride n k l))))
 
   read-all : (n : ℕ) → ((k : ℕ) → k < n → onLine M first stride k < 3) → n ≡ placesRead M first stride n
   unfolding placesRead
   read-all n h = sym (number-all _ n (λ k l. lt-ltb _ 3 (h k l)))
 
-  below : (n k : ℕ) → k ≤ n → onLine M first stride k ≤ onLine M first stride n
-  unfolding onLine
-  below n k l = number-inc (λ i. M (first + stride * i)) k n l
-
-  with-third : (k : ℕ) → M (first + stride * k) ≡ true → onLine M first stride (k + 1) ≡ onLine M first stride k + 1
-  unfolding onLine
-  with-third k e = ap (number (λ i. M (first + stride * i))) (add-one k) ∙ number-in (λ i. M (first + stride * i)) k e
-
   -- ---- the two numbers are the request's, and no others
 
   third-read : (len k : ℕ) → k < len → M (first + stride * k) ≡ true → onLine M first stride k ≡ 2 → k + 1 ≡ placesRead M first stride len
   third-read len k l e two =
-      read-ends (k + 1) len (read-all (k + 1) (λ i m. omega (arith, two, below k i (omega arith)))) (omega (arith, two, with-third k e)) (omega arith)
+      read-ends (k + 1) len (read-all (k + 1) (λ i m. omega (arith, two, line-longer M first stride i k (omega arith)))) (omega (arith, two, line-in M first stride k e)) (omega arith)
 
   whole-read : (len : ℕ) → onLine M first stride len ≤ 2 → len ≡ placesRead M first stride len
-  whole-read len few = read-all len (λ k l. omega (arith, few, below len k (omega arith)))
+  whole-read len few = read-all len (λ k l. omega (arith, few, line-longer M first stride k len (omega arith)))
 
   found-third : (len k : ℕ) → k < len → M (first + stride * k) ≡ true → onLine M first stride k ≡ 2 → 3 ≡ found M first stride len
-  found-third len k l e two = omega (arith, two, with-third k e, below len (k + 1) (omega arith))
+  found-third len k l e two = omega (arith, two, line-in M first stride k e, line-longer M first stride (k + 1) len (omega arith))
 
   pub one-reading : (len n read : ℕ) → UpToThird M first stride len n read → (n ≡ found M first stride len) × (read ≡ placesRead M first stride len)
   one-reading len _ _ (third k l e two) = (found-third len k l e two, third-read len k l e two)

@@ -31,18 +31,18 @@ pub struct MissingPlaces {
     pub last: usize,
 }
 
-// Scans line m of an axis up to its third erasure, lines counted by the cell number of their first cell. Flags behind the places read may be
+// Scans a line of an axis up to its third erasure, lines numbered by the cell number of their first cell. Flags behind the places read may be
 // anything, and no flag is refused: a scan that asked them all would not stop.
-pub fn scan(flags: &[u8], sh: Shape, axis: usize, m: usize) -> ScanAnswer
-    ensures { λ r. ⌜ scanValue r ≡ checked (scanOf (now (flags .entry)) sh axis m) ⌝ }
+pub fn scan(flags: &[u8], sh: Shape, axis: usize, line: usize) -> ScanAnswer
+    ensures { λ r. ⌜ scanValue r ≡ checked (scanOf (now (flags .entry)) sh axis line) ⌝ }
 {
-    match shape::axis_line(sh, axis, m) {
+    match shape::axis_line(sh, axis, line) {
         LineAnswer::Refused(f) => ScanAnswer::Refused(f),
-        LineAnswer::Found(line) => {
+        LineAnswer::Found(found) => {
             if flags.len() != sh.l1 * sh.l2 * sh.l3 {
                 return ScanAnswer::Refused(Refusal::Plain(Fault::SliceLength));
             }
-            let e = scan_line(flags, line);
+            let e = scan_line(flags, found);
             ScanAnswer::Scanned(ScanCounts {
                 erasures: e.count,
                 read: e.read,

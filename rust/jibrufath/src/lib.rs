@@ -54,7 +54,7 @@ pub use needs::{Needs, needs};
 pub use pack::{AirPack, Packet, Packets, job_pack, packets};
 pub use receive::{Received, Reception, default_limit, receive, receive_pack, receive_within};
 pub use refusal::Refusal;
-pub use scan::{Scan, scan};
+pub use scan::{ScanCounts, scan};
 pub use shape::Shape;
 pub use write::{write, write_pack};
 

@@ -6,7 +6,7 @@ use crate::{Refusal, Shape};
 
 /// What [`scan`] found on a line.
 #[derive(Clone, Copy, Debug, PartialEq, Eq, Hash)]
-pub struct Scan {
+pub struct ScanCounts {
     /// How many missing cells were found, at most three.
     pub erasures: usize,
     /// How many places were read: up to and with the third missing cell, or the whole line.
@@ -25,7 +25,7 @@ pub struct Scan {
 /// [`Refusal::Dimension`] (no such line), [`Refusal::SliceLength`].
 ///
 /// ```
-/// use jibrufath::{Refusal, Scan, Shape, scan};
+/// use jibrufath::{Refusal, ScanCounts, Shape, scan};
 ///
 /// // Line 0 of axis 1 misses its places 0, 2 and 3, and of axis 2 only its first.
 /// let shape = Shape::new(5, 4, 3, 16);
@@ -33,15 +33,15 @@ pub struct Scan {
 /// for cell in [0, 2, 3] {
 ///     flags[cell] = 1;
 /// }
-/// assert_eq!(scan(shape, 1, 0, &flags), Ok(Scan { erasures: 3, read: 4 }));
-/// assert_eq!(scan(shape, 2, 0, &flags), Ok(Scan { erasures: 1, read: 4 }));
+/// assert_eq!(scan(shape, 1, 0, &flags), Ok(ScanCounts { erasures: 3, read: 4 }));
+/// assert_eq!(scan(shape, 2, 0, &flags), Ok(ScanCounts { erasures: 1, read: 4 }));
 /// assert_eq!(scan(shape, 1, 12, &flags), Err(Refusal::Dimension));
 /// ```
-pub fn scan(shape: Shape, axis: usize, line: usize, flags: &[u8]) -> Result<Scan, Refusal> {
+pub fn scan(shape: Shape, axis: usize, line: usize, flags: &[u8]) -> Result<ScanCounts, Refusal> {
     let mut counts = [0; 2];
     answer(call(shape, axis, line, flags, &mut counts))?;
     let [erasures, read] = counts.map(|count| count as usize);
-    Ok(Scan { erasures, read })
+    Ok(ScanCounts { erasures, read })
 }
 
 fn call(shape: Shape, axis: usize, line: usize, flags: &[u8], counts: &mut [u64; 2]) -> u64 {

@@ -13,16 +13,21 @@ fn ends_at_the_third(places: &[u8], scan: Scan) -> bool {
     found == holes && (third_is_last || holes < 3 && read == places.len())
 }
 
+/// A small shape with this length along the axis.
+fn small_shape(axis: usize, len: usize) -> Shape {
+    let mut lengths = [3, 4, 5];
+    lengths[axis - 1] = len;
+    let [l1, l2, l3] = lengths;
+    Shape::new(l1, l2, l3, 1)
+}
+
 #[test]
 fn every_pattern_of_a_short_line() {
     let mut random = Random::new(9001);
     let mut seen = [0; 4];
     for axis in 1..=3 {
         for len in 3..=8 {
-            let mut lengths = [3, 4, 5];
-            lengths[axis - 1] = len;
-            let [l1, l2, l3] = lengths;
-            let shape = Shape::new(l1, l2, l3, 1);
+            let shape = small_shape(axis, len);
             let lines: Vec<_> = twin(shape).lines(axis).collect();
             for pattern in 0..1_usize << len {
                 let number = random.among(0..=lines.len() - 1);
@@ -43,10 +48,7 @@ fn every_pattern_of_a_short_line() {
 /// A line of each axis with holes at these places alone, among cells that are all missing.
 fn compare_holes(random: &mut Random, len: usize, holes: &[usize], expected: Scan) {
     for axis in 1..=3 {
-        let mut lengths = [3, 4, 5];
-        lengths[axis - 1] = len;
-        let [l1, l2, l3] = lengths;
-        let shape = Shape::new(l1, l2, l3, 1);
+        let shape = small_shape(axis, len);
         let lines: Vec<_> = twin(shape).lines(axis).collect();
         for (number, line) in lines.iter().enumerate() {
             let mut trial = ScanTrial::new(random, shape, axis, number);
