@@ -30,7 +30,7 @@ use Rattle.fill.specs.declared.FillAnswer.the-variants.{Left, Refused as
 use Rattle.shape.specs.Flags.{missing}
 use Rattle.fill.specs.Fill.{CellsLeft, fillValue, flagsChecked, Filling, Cleared, FillOutcome, fill-refused, fill-done, fill-contradiction}
 use Rattle.peel.specs.Peel.{Sized, Stops, Agrees, Peeled}
-use Rattle.fill.specs.Inner.Cells.{filled, Remarked}
+use Rattle.shape.specs.Inner.Marks.{isMarked, Remarked}
 use Rattle.fill.specs.Inner.Verify.{Right, AllRight}
 use Rattle.fill.proofs.Checks.{done-sized, done-flags}
 use Rattle.shape.proofs.Missing.{valid-flag, flags-valid, missing-one, not-missing, missing-cong}
@@ -40,13 +40,13 @@ use Rattle.peel.proofs.Reaching.{reaches-missing}
 
 -- a filled cell is not missing, and settling keeps it so
 settled-missing : (gs hs : List ℕ) → Remarked 0 gs hs → (n : ℕ) → n < length gs → missing hs n ≡ missing gs n
-unfolding filled
+unfolding isMarked
 settled-missing gs hs r n l =
     ⊎-elim
-    (λ (e : filled gs n ≡ true).
-    not-missing hs n (λ f. let g : _≡_ {A = ℕ} 0 1 = sym (r .marked n l e) ∙ f in omega arith)
+    (λ (e : isMarked gs n ≡ true).
+    not-missing hs n (λ f. let g : _≡_ {A = ℕ} 0 1 = sym (r .marks n l e) ∙ f in omega arith)
     ∙ sym (not-missing gs n (λ f. let g : _≡_ {A = ℕ} 3 1 = sym (eqb-true (getD gs n 0) 3 e) ∙ f in omega arith)))
-    (λ (e : filled gs n ≡ false). missing-cong gs hs n (r .others n e)) (true-or-false (filled gs n))
+    (λ (e : isMarked gs n ≡ false). missing-cong gs hs n (r .others n e)) (true-or-false (isMarked gs n))
 
 -- ---- refused by the checks
 
@@ -69,16 +69,16 @@ module _ (r : ℕ) (sh : Shape) (xs fs zs ys gs : List ℕ) (done : flagsChecked
   flag-low : (n : ℕ) → getD fs n 0 ≤ 1
   flag-low = valid-flag fs (done-flags sh (length xs) fs done)
 
-  filled-then : (n : ℕ) → filled gs n ≡ true → getD fs n 0 ≡ 1
-  unfolding filled
+  filled-then : (n : ℕ) → isMarked gs n ≡ true → getD fs n 0 ≡ 1
+  unfolding isMarked
   filled-then n e =
       ⊎-elim
       (λ (k : getD gs n 0 ≡ getD fs n 0).
       absurd (let g : getD gs n 0 ≡ 3 = eqb-true (getD gs n 0) 3 e in omega (arith, flag-low n)))
       (λ (k : (getD fs n 0 ≡ 1) × (getD gs n 0 ≡ 3)). k .0) (p .reaches .marks n)
 
-  kept-then : (n : ℕ) → filled gs n ≡ false → getD gs n 0 ≡ getD fs n 0
-  unfolding filled
+  kept-then : (n : ℕ) → isMarked gs n ≡ false → getD gs n 0 ≡ getD fs n 0
+  unfolding isMarked
   kept-then n e =
       ⊎-elim (λ (k : getD gs n 0 ≡ getD fs n 0). k)
       (λ (k : (getD fs n 0 ≡ 1) × (getD gs n 0 ≡ 3)). absurd (true≢false (sym (eq-eqb (getD gs n 0) 3 (k .1)) ∙ e))) (p .reaches .marks n)
@@ -108,8 +108,8 @@ module _ (r : ℕ) (sh : Shape) (xs fs zs ys gs : List ℕ) (done : flagsChecked
 
     settled-low : (n : ℕ) → n < length hs → getD hs n 0 ≤ 1
     settled-low n l =
-        ⊎-elim (λ (e : filled gs n ≡ true). omega (arith, m .marked n (omega (arith, m .size)) e))
-        (λ (e : filled gs n ≡ false). omega (arith, m .others n e, kept-then n e, flag-low n)) (true-or-false (filled gs n))
+        ⊎-elim (λ (e : isMarked gs n ≡ true). omega (arith, m .marks n (omega (arith, m .size)) e))
+        (λ (e : isMarked gs n ≡ false). omega (arith, m .others n e, kept-then n e, flag-low n)) (true-or-false (isMarked gs n))
 
     settled-filling : Filling r sh xs (missing fs) (missing gs) ys → Filling r sh xs (missing fs) (missing hs) ys
     settled-filling f =
@@ -149,24 +149,24 @@ module _ (r : ℕ) (sh : Shape) (xs fs zs ys gs : List ℕ) (done : flagsChecked
       filling-agrees v f (first + stride * i) w (cube-fits sh first stride len l i b) m (onLine-zero (missing gs) first stride len e i b))
       (f .lines first stride len l e w m)
 
-  module _ (ws hs : List ℕ) (d : Cleared sh ys (filled gs) ws) (m : Remarked 1 gs hs) where
+  module _ (ws hs : List ℕ) (d : Cleared sh ys (isMarked gs) ws) (m : Remarked 1 gs hs) where
     restored-flags : hs ≡ fs
     restored-flags =
         ext-getD 0 hs fs (m .size ∙ p .reaches .flags)
         (λ n l.
-        ⊎-elim (λ (e : filled gs n ≡ true). m .marked n (omega (arith, m .size)) e ∙ sym (filled-then n e))
-        (λ (e : filled gs n ≡ false). m .others n e ∙ kept-then n e) (true-or-false (filled gs n)))
+        ⊎-elim (λ (e : isMarked gs n ≡ true). m .marks n (omega (arith, m .size)) e ∙ sym (filled-then n e))
+        (λ (e : isMarked gs n ≡ false). m .others n e ∙ kept-then n e) (true-or-false (isMarked gs n)))
 
     restored-known : (n w : ℕ) → n < cells sh → w < sh .w → missing fs n ≡ false → layer sh ws w n ≡ layer sh xs w n
     restored-known n w l b e =
-        ⊎-elim (λ (k : filled gs n ≡ true). absurd (true≢false (sym (missing-one fs n (filled-then n k)) ∙ e)))
-        (λ (k : filled gs n ≡ false). d .known n w l b k ∙ peeled-known n w l b e) (true-or-false (filled gs n))
+        ⊎-elim (λ (k : isMarked gs n ≡ true). absurd (true≢false (sym (missing-one fs n (filled-then n k)) ∙ e)))
+        (λ (k : isMarked gs n ≡ false). d .known n w l b k ∙ peeled-known n w l b e) (true-or-false (isMarked gs n))
 
     restored-missing : (n w : ℕ) → n < cells sh → w < sh .w → missing fs n ≡ true → layer sh ws w n ≡ 0
     restored-missing n w l b e =
-        ⊎-elim (λ (k : filled gs n ≡ true). d .missing n w l b k)
-        (λ (k : filled gs n ≡ false). d .known n w l b k ∙ peeled-left n w l b (missing-cong fs gs n (kept-then n k) ∙ e))
-        (true-or-false (filled gs n))
+        ⊎-elim (λ (k : isMarked gs n ≡ true). d .missing n w l b k)
+        (λ (k : isMarked gs n ≡ false). d .known n w l b k ∙ peeled-left n w l b (missing-cong fs gs n (kept-then n k) ∙ e))
+        (true-or-false (isMarked gs n))
 
     pub contradiction-outcome : (AllRight r sh ys gs → ⊥) → FillOutcome r sh xs fs ws hs (fillValue (NotFilled (Plain Contradiction)))
     unfolding fillValue refusal faultNumber

@@ -6,7 +6,7 @@ ghost use Rattle.stopping.specs.Stopping.{number};
 ghost use Rattle.shape.specs.Flags.{missing};
 ghost use Rattle.peel.specs.Peel.{Sized};
 ghost use Rattle.fill.specs.Fill.{Cleared};
-ghost use Rattle.fill.specs.Inner.Cells.{filled, Remarked};
+ghost use Rattle.shape.specs.Inner.Marks.{isMarked, Remarked};
 
 // Clears every missing cell: right for each outcome that is left.
 pub(crate) fn clear_missing(cube: &mut [u8], flags: &[u8], sh: Shape)
@@ -45,7 +45,7 @@ pub(crate) fn settle(flags: &mut [u8]) -> usize
 // After a contradiction: filled cells are missing again, and cleared.
 pub(crate) fn restore(cube: &mut [u8], flags: &mut [u8], sh: Shape)
     requires { ⌜ Sized sh (now cube) (now flags) ⌝ }
-    ensures { λ _. ⌜ Cleared sh (now (cube .entry)) (filled (now (flags .entry))) (now (cube .exit)) ⌝ }
+    ensures { λ _. ⌜ Cleared sh (now (cube .entry)) (isMarked (now (flags .entry))) (now (cube .exit)) ⌝ }
     ensures { λ _. ⌜ Remarked 1 (now (flags .entry)) (now (flags .exit)) ⌝ }
 {
     let w = sh.w;

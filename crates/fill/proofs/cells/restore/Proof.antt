@@ -8,15 +8,15 @@ use borrow.Author.Tests.{eq-eqb, ne-eqb}
 use lib.ListN.{length}
 use denote.Ref.{now}
 use Rattle.shape.specs.Shapes.{cells}
-use Rattle.fill.specs.Inner.Cells.{filled}
+use Rattle.shape.specs.Inner.Marks.{isMarked}
 use Rattle.fill.proofs.Clearing.{cell-room, ClearedTo, cleared-none, cleared-skip, cleared-more, cleared-all}
-use Rattle.fill.proofs.Marks.{RemarkedTo, remarked-none, remarked-flag, remarked-skip, remarked-more, remarked-all}
+use Rattle.shape.proofs.Marks.{RemarkedTo, remarked-none, remarked-flag, remarked-skip, remarked-more, remarked-all}
 use Rattle.fill.proofs.cells.restore.Statement.{statement}
 use Rattle.fill.proofs.cells.restore.Tie as tie
 
 abbrev Inv-loop : tie.InvT-loop
 Inv-loop cube₀ flags₀ w n₀ cube flags n =
-    (n ≤ length flags₀) × RemarkedTo 1 n flags₀ flags × ClearedTo w (filled flags₀) n cube₀ cube
+    (n ≤ length flags₀) × RemarkedTo 1 n flags₀ flags × ClearedTo w (isMarked flags₀) n cube₀ cube
 
 abbrev μ-loop : tie.MeasureT-loop
 μ-loop cube₀ flags₀ w n₀ cube flags n = length flags₀ - n
@@ -30,8 +30,8 @@ room c = cell-room _ _ _ (c .before .before .before .before .before .before .bef
 
 was-filled :
     (c : tie.Joined1 Inv-loop μ-loop) →
-    filled (now (c .before .before .before .before .before .before .args .flags)) (c .before .before .before .loop .n)
-    ≡ filled (c .before .before .before .loop .flags) (c .before .before .before .loop .n)
+    isMarked (now (c .before .before .before .before .before .before .args .flags)) (c .before .before .before .loop .n)
+    ≡ isMarked (c .before .before .before .loop .flags) (c .before .before .before .loop .n)
 was-filled c = sym (remarked-flag 1 _ _ _ (c .before .before .before .loop .inv .1))
 
 loop-holds : tie.Need-loop-holds Inv-loop μ-loop
@@ -56,7 +56,7 @@ loop-less : tie.Need-loop-less Inv-loop μ-loop
 loop-less c = omega arith
 
 loop-again : tie.Need-loop-again Inv-loop μ-loop
-unfolding filled
+unfolding isMarked
 loop-again c = (
   omega arith,
   ⊎-elim

@@ -8,7 +8,8 @@ use denote.Ref.{now}
 use Rattle.stopping.specs.Stopping.{number}
 use Rattle.stopping.proofs.Number.{number-nil, number-le}
 use Rattle.shape.specs.Flags.{missing}
-use Rattle.fill.proofs.Marks.{RemarkedTo, remarked-none, remarked-turn, remarked-all, count-turn, missing-in, missing-out}
+use Rattle.shape.proofs.Marks.{RemarkedTo, remarked-none, remarked-turn, remarked-all}
+use Rattle.fill.proofs.Marks.{count-turn, missing-in, missing-out}
 use Rattle.fill.proofs.cells.settle.Statement.{statement}
 use Rattle.fill.proofs.cells.settle.Tie as tie
 

@@ -1,0 +1,2 @@
+-- What functions inside calls promise each other of flags. Within a call a flag may be the private mark 3: 2 stays free.
+pub mod Marks
