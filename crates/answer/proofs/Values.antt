@@ -1,19 +1,20 @@
 -- The laws of values: a value gives its answer back, checks one after another, and a refusal is no result.
 use mathlib.Core.Path.{_≡_, refl, sym, ap, ap₂, subst, _∙_}
 use mathlib.Core.Bool.{Bool, true, false, cond}
+use mathlib.Core.Logic.{_≢_}
 use Prim.Native.Nat.{ℕ}
 use native.Mathlib.Omega.{arith}
 use lib.Dec.{eqb}
 use Rattle.answer.specs.declared.Fault.{Fault}
 use Rattle.answer.specs.declared.Fault.the-variants.{Dimension, PacketSize, CubeSize, SliceLength, FlagValue, Truncated, HeaderCount, TrailingBytes, SectionCount, Capacity, Contradiction, FileLength, Erasure, Uncorrected}
 use Rattle.answer.specs.declared.PacketFault.{PacketFault}
-use Rattle.answer.specs.declared.PacketFault.the-variants.{CellIndex, Conflict}
+use Rattle.answer.specs.declared.PacketFault.the-variants.{CellIndex}
 use Rattle.answer.specs.declared.Refusal.{Refusal}
 use Rattle.answer.specs.declared.Refusal.the-variants.{Plain, Packet, Line}
 use Rattle.answer.specs.declared.Answer.{Answer}
 use Rattle.answer.specs.declared.Answer.the-variants.{Done, Refused}
 use Rattle.answer.specs.Refusals.{faultNumber, packetFaultNumber}
-use Rattle.answer.specs.Values.{gives, refused, Checked, passes, fails, check, andThen, checked, refusal, answerValue}
+use Rattle.answer.specs.Values.{gives, refused, Checked, passes, fails, check, andThen, checked, refusal, answerValue, numberOf, Retired}
 
 -- ---- checks
 
@@ -120,18 +121,17 @@ fault-at Uncorrected = refl
 pub fault-injective : (f g : Fault) → faultNumber f ≡ faultNumber g → f ≡ g
 fault-injective f g e = sym (fault-at f) ∙ ap faultAt e ∙ fault-at g
 
+-- a packet is refused by one number
+pub packet-fault-number : (f : PacketFault) → packetFaultNumber f ≡ 11
+unfolding packetFaultNumber
+packet-fault-number CellIndex = refl
+
 -- no packet's refusal has the number of a line's
 packet-fault-line : (f : PacketFault) → packetFaultNumber f ≡ 17 → ⊥
-unfolding packetFaultNumber
-packet-fault-line CellIndex e = omega arith
-packet-fault-line Conflict e = omega arith
+packet-fault-line f e = omega (arith, packet-fault-number f)
 
 pub packet-fault-injective : (f g : PacketFault) → packetFaultNumber f ≡ packetFaultNumber g → f ≡ g
-unfolding packetFaultNumber
 packet-fault-injective CellIndex CellIndex e = refl
-packet-fault-injective CellIndex Conflict e = absurd (omega arith)
-packet-fault-injective Conflict CellIndex e = absurd (omega arith)
-packet-fault-injective Conflict Conflict e = refl
 
 -- a value names one refusal
 pub refusal-injective : {A : Type 0} (f g : Refusal) → refusal {A = A} f ≡ refusal {A = A} g → f ≡ g
@@ -146,6 +146,30 @@ refusal-injective (Packet f i) (Line n) e = absurd (packet-fault-line f cc)
 refusal-injective (Line m) (Plain g) e = let z : _≡_ {A = ℕ} 0 1 = cc in absurd (omega arith)
 refusal-injective (Line m) (Packet g j) e = absurd (packet-fault-line g cc)
 refusal-injective (Line m) (Line n) e = ap Line cc
+
+-- "Number 12 no longer occurs."
+fault-not-12 : (f : Fault) → faultNumber f ≢ 12
+unfolding faultNumber
+fault-not-12 Dimension e = omega arith
+fault-not-12 PacketSize e = omega arith
+fault-not-12 CubeSize e = omega arith
+fault-not-12 SliceLength e = omega arith
+fault-not-12 FlagValue e = omega arith
+fault-not-12 Truncated e = omega arith
+fault-not-12 HeaderCount e = omega arith
+fault-not-12 TrailingBytes e = omega arith
+fault-not-12 SectionCount e = omega arith
+fault-not-12 Capacity e = omega arith
+fault-not-12 Contradiction e = omega arith
+fault-not-12 FileLength e = omega arith
+fault-not-12 Erasure e = omega arith
+fault-not-12 Uncorrected e = omega arith
+
+pub retired-12 : Retired 12
+unfolding Retired refusal numberOf
+retired-12 (Plain f) e = fault-not-12 f e
+retired-12 (Packet f i) e = omega (arith, packet-fault-number f)
+retired-12 (Line n) e = omega arith
 
 pub answer-injective : (r s : Answer) → answerValue r ≡ answerValue s → r ≡ s
 unfolding answerValue

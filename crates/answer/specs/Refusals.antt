@@ -3,7 +3,7 @@ use Prim.Native.Nat.{ℕ}
 use Rattle.answer.specs.declared.Fault.{Fault}
 use Rattle.answer.specs.declared.Fault.the-variants.{Dimension, PacketSize, CubeSize, SliceLength, FlagValue, Truncated, HeaderCount, TrailingBytes, SectionCount, Capacity, Contradiction, FileLength, Erasure, Uncorrected}
 use Rattle.answer.specs.declared.PacketFault.{PacketFault}
-use Rattle.answer.specs.declared.PacketFault.the-variants.{CellIndex, Conflict}
+use Rattle.answer.specs.declared.PacketFault.the-variants.{CellIndex}
 
 unfoldable pub faultNumber : Fault → ℕ
 faultNumber Dimension = 1
@@ -23,7 +23,6 @@ faultNumber Uncorrected = 16
 
 unfoldable pub packetFaultNumber : PacketFault → ℕ
 packetFaultNumber CellIndex = 11
-packetFaultNumber Conflict = 12
 
 -- request P1: "17, the first line that breaks this form, with its number from 1"
 abbrev pub lineFaultNumber : ℕ

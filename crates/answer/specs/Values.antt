@@ -1,5 +1,6 @@
 -- What an answer is to document 01: a result, or a refusal by its number and, where it names one, its place.
 use mathlib.Core.Bool.{Bool, cond}
+use mathlib.Core.Logic.{_≢_}
 use Prim.Native.Nat.{ℕ}
 use Rattle.answer.specs.declared.Refusal.{Refusal}
 use Rattle.answer.specs.declared.Refusal.the-variants.{Plain, Packet, Line}
@@ -48,6 +49,10 @@ unfoldable pub numberOf : {A : Type 0} → Value A → ℕ
 numberOf (gives a) = 0
 numberOf (refused n) = n
 numberOf (refused-at n i) = n
+
+-- Request P3: "Number 12 no longer occurs." No refusal has it: proofs/Values.antt shows `Retired 12`.
+unfoldable pub Retired : ℕ → Type 0
+Retired n = (f : Refusal) → numberOf {A = Unit} (refusal f) ≢ n
 
 -- the place that a refusal names, 0 where it names none
 unfoldable pub placeOf : {A : Type 0} → Value A → ℕ

@@ -23,7 +23,6 @@ pub enum Fault {
 // Why a packet is refused.
 pub enum PacketFault {
     CellIndex,
-    Conflict,
 }
 
 // A refusal: of the whole call, of a packet with its index from 0, or of a line of a text with its number from 1.
@@ -60,10 +59,7 @@ pub fn number(f: Refusal) -> u64
             Fault::Erasure => 15,
             Fault::Uncorrected => 16,
         },
-        Refusal::Packet(p, _) => match p {
-            PacketFault::CellIndex => 11,
-            PacketFault::Conflict => 12,
-        },
+        Refusal::Packet(_, _) => 11,
         Refusal::Line(_) => 17,
     }
 }

@@ -1,5 +1,6 @@
 -- What follows from demand 3 by itself: 26 or fewer lost cells always come back.
 use mathlib.Core.Path.{_≡_}
+use mathlib.Core.Bool.{Bool}
 use mathlib.Core.List.{List, _++_}
 use Prim.Native.Nat.{ℕ, _≤_}
 use native.Mathlib.Decide.{ℕ-discrete}
@@ -14,10 +15,10 @@ use Rattle.pack.specs.Packs.{Packet}
 use Rattle.receiver.specs.declared.Counts.{Counts}
 use Rattle.receiver.specs.Gathering.{Reception, file}
 use Rattle.receiver.specs.Receive.{Memory}
-use Rattle.demands.specs.Demand3.{lost, leftIn, Exact}
+use Rattle.demands.specs.Demand3.{leftIn, Exact}
 
-pub few-lost : {sh : Shape} {contents x : List ℕ} {ps : List Packet} {m m′ : Memory} {value : Value Reception} {counts : Counts}
-    → Exact sh contents x ps m m′ value counts → number (lost sh ps) (cells sh) ≤ 26
+pub few-lost : {sh : Shape} {contents x : List ℕ} {ps : List Packet} {L : ℕ → Bool} {m m′ : Memory} {value : Value Reception} {counts : Counts}
+    → Exact sh contents x ps L m m′ value counts → number L (cells sh) ≤ 26
     → (value ≡ gives (file (length contents))) × (m′ .buffer ≡ contents ++ drop (length contents) (m .buffer))
 few-lost {value} e few =
     e .file-back

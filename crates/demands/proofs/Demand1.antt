@@ -19,7 +19,7 @@ use Rattle.cursor.specs.declared.Cursor.{Cursor}
 use Rattle.pack.specs.Writing.{sizeChecked, airSizeChecked, StartOutcome, start-refused, started, AirOutcome, air-kept, air-written}
 use Rattle.writer.specs.Write.{WriteOutcome, write-refused, write-done}
 use Rattle.receiver.specs.declared.Counts.{Counts}
-use Rattle.receiver.specs.Gathering.{Reception, unfit, index, conflict, contradiction, some-left, none-left}
+use Rattle.receiver.specs.Gathering.{Reception, unfit, index, contradiction, some-left, none-left}
 use Rattle.receiver.specs.Opening.{bad}
 use Rattle.receiver.specs.Receive.{Memory, ReceiveOutcome, unopened, bad-file, opened}
 use Rattle.text.specs.Text.{textSizeChecked, WriteTextOutcome, ReadTextOutcome, PackSizeOutcome, size-broken, size-checked}
@@ -118,7 +118,6 @@ module _ (p : List ℕ) (m m′ : Memory) where
       let k = receive-number n p m e in
       refuses k (record {
         kept = λ _. (x, y);
-        conflict = λ z. keeps-no n 12 (k .keeps) refl z;
         contradiction = λ z. keeps-no n 13 (k .keeps) refl z;
         bad-file = λ z. keeps-no n 14 (k .keeps) refl z;
         buffer = same;
@@ -127,16 +126,6 @@ module _ (p : List ℕ) (m m′ : Memory) where
   receive-ends _ _ (unopened _ _ (index h s e i l out before x y) same) =
       in-place 11 i refl refl (record {
         kept = λ _. (x, y);
-        conflict = λ z. absurd (omega arith);
-        contradiction = λ z. absurd (omega arith);
-        bad-file = λ z. absurd (omega arith);
-        buffer = same;
-        no-counts = refl;
-      })
-  receive-ends _ _ (unopened _ _ (conflict h s e ins i l c none x y) same) =
-      in-place 12 i refl refl (record {
-        kept = λ z. absurd (false≢true z);
-        conflict = λ _. (x, y);
         contradiction = λ z. absurd (omega arith);
         bad-file = λ z. absurd (omega arith);
         buffer = same;
@@ -146,7 +135,6 @@ module _ (p : List ℕ) (m m′ : Memory) where
   receive-ends _ _ (unopened _ _ (contradiction h s e xs₁ fs₁ t (fill-contradiction d K k none c f)) same) =
       in-refusal 13 refl refl (record {
         kept = λ z. absurd (false≢true z);
-        conflict = λ z. absurd (omega arith);
         contradiction = λ _. (record { header = h; section = s; checks = e; cube = xs₁; flags = fs₁; taken = t }, c, f);
         bad-file = λ z. absurd (omega arith);
         buffer = same;
@@ -156,7 +144,6 @@ module _ (p : List ℕ) (m m′ : Memory) where
   receive-ends _ _ (bad-file h′ s′ k e′ (none-left h s e xs₁ fs₁ t f) (bad b same)) =
       in-refusal 14 refl refl (record {
         kept = λ z. absurd (false≢true z);
-        conflict = λ z. absurd (omega arith);
         contradiction = λ z. absurd (omega arith);
         bad-file = λ _. (record { header = h; section = s; checks = e; cube = xs₁; flags = fs₁; taken = t }, f);
         buffer = same;

@@ -28,7 +28,7 @@ use Rattle.fill.proofs.Theorems.{filling-or-contradiction}
 use Rattle.pack.specs.declared.Header.{Header}
 use Rattle.pack.specs.declared.Section.{Section}
 use Rattle.receiver.specs.declared.Counts.{Counts}
-use Rattle.receiver.specs.Gathering.{Reception, file, left, Taken, unfit, index, conflict, contradiction, some-left, none-left}
+use Rattle.receiver.specs.Gathering.{Reception, file, left, Taken, unfit, index, contradiction, some-left, none-left}
 use Rattle.receiver.specs.Receive.{Memory, receiveChecked, ReceiveOutcome, unopened, bad-file, opened}
 use Rattle.receiver.proofs.Outcomes.{accepted-ready, placed-checked}
 use Rattle.receiver.proofs.Determined.{placed-flags, placed-known}
@@ -140,10 +140,6 @@ module _ (p : List ℕ) (m : Memory) (g : Header) (c : Section) (checks : receiv
       let header = same-header h s e in
       let section = same-section h s e in
       absurd ((rw (header, section) at out) (taken .indexes i (rw section at l)))
-  receive-exactly m′ _ _ (unopened _ _ (conflict h s e ins i l d none x y) same) K k =
-      let header = same-header h s e in
-      let section = same-section h s e in
-      absurd (taken .agree i (rw section at l) (rw (header, section) at d))
   receive-exactly m′ _ _ (unopened _ _ (contradiction h s e xs₁ fs₁ t o) same) K k =
       is-13 K k _ _ (placed-outcome h s xs₁ fs₁ _ _ _ e t o)
   receive-exactly m′ _ _ (unopened _ _ (some-left h s e xs₁ fs₁ t n some o) same) K k =
@@ -159,7 +155,6 @@ module _ (p : List ℕ) (m m′ : Memory) where
   unfolding numberOf OneOf isOneOf earlyNumbers
   receive-placed _ _ (unopened _ _ (unfit n e x y) same) = inl (early-number n p m e)
   receive-placed _ _ (unopened _ _ (index h s e i l out before x y) same) = inl refl
-  receive-placed _ _ (unopened _ _ (conflict h s e ins i l d none x y) same) = inl refl
   receive-placed _ _ (unopened _ _ (contradiction h s e xs fs t o) same) =
       inr (record { header = h; section = s; checks = e; cube = xs; flags = fs; taken = t })
   receive-placed _ _ (unopened _ _ (some-left h s e xs fs t n some o) same) =

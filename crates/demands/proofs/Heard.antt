@@ -1,5 +1,7 @@
--- A list of packets of a code cube's cells, heard as an air pack: every packet is in range, names its cell and has the cube's bytes.
-use mathlib.Core.Path.{_≡_, ap, _∙_}
+-- A list of packets for a code cube's cells, heard as an air pack: every packet is in range and names its cell, and where the copies of a cell are
+-- all equal they have the cube's bytes.
+use mathlib.Core.Path.{_≡_, sym, ap, _∙_}
+use mathlib.Core.Bool.{true, false}
 use mathlib.Core.List.{List}
 use Prim.Native.Nat.{ℕ, _*_, _<_}
 use native.Mathlib.Nat.{mod-lt, mul-pos}
@@ -15,32 +17,65 @@ use Rattle.pack.specs.Packs.{Packet, airPack, packetOf}
 use Rattle.pack.specs.Packets.{packetNo, source, sourceOf, InRange}
 use Rattle.pack.specs.Reading.{headerFor}
 use Rattle.pack.proofs.Written.{Sized, Carries, carries-place, packetOf-length}
+use Rattle.receiver.specs.Placing.{agreed}
+use Rattle.receiver.proofs.Copies.{equal-conflict}
+use Rattle.demands.specs.Demand3.{inConflict, CopyOf}
 
--- every packet of the list is a cell's
-abbrev pub Each : Shape → List ℕ → List Packet → Type 0
-Each sh x ps = (i : ℕ) → i < length ps → (n : ℕ) × (n < cells sh) × (packetNo ps i ≡ packetOf sh x n)
+-- ---- a packet of a cube
 
-module _ (sh : Shape) (x : List ℕ) (ps : List Packet) (size : length x ≡ sh .w * cells sh) (each : Each sh x ps) where
+-- k is the packet of a cell of x
+abbrev pub OfCell : Shape → List ℕ → Packet → Type 0
+OfCell sh x k = (n : ℕ) × (n < cells sh) × (k ≡ packetOf sh x n)
+
+module _ (sh : Shape) (x : List ℕ) (ps : List Packet) (i : ℕ) (of : OfCell sh x (packetNo ps i)) where
+  place-of : sourceOf sh ps .place i ≡ of .0
+  unfolding sourceOf packetOf
+  place-of = rw (of .2) (cell-coordinates sh (of .0))
+
+  pub byte-of : (w : ℕ) → w < sh .w → sourceOf sh ps .byte i w ≡ layer sh x w (sourceOf sh ps .place i)
+  unfolding sourceOf packetOf layer
+  byte-of w b =
+      ap (λ (k : Packet). getD (k .bytes) w 0) (of .2) ∙ getD-take (sh .w) (drop (of .0 * sh .w) x) w 0 b
+      ∙ getD-drop (of .0 * sh .w) x w 0 ∙ ap (layer sh x w) (sym place-of)
+
+-- copies of a cell that are all packets of x do not differ
+pub none-differ : (sh : Shape) (x : List ℕ) (ps : List Packet) (m : ℕ)
+    → ((i : ℕ) → i < length ps → sourceOf sh ps .place i ≡ m → OfCell sh x (packetNo ps i)) → inConflict sh ps m ≡ false
+unfolding inConflict
+none-differ sh x ps m all =
+    equal-conflict sh (sourceOf sh ps) (length ps) m
+    (λ i j l r p q w b.
+    byte-of sh x ps i (all i l p) w b ∙ ap (layer sh x w) (p ∙ sym q) ∙ sym (byte-of sh x ps j (all j r q) w b))
+
+-- ---- a list of copies of cells
+
+-- a packet is a copy of itself
+pub same-copy : {k g : Packet} → g ≡ k → CopyOf k g
+same-copy e =
+    record {
+      first = ap (λ (p : Packet). p .a) e;
+      second = ap (λ (p : Packet). p .b) e;
+      third = ap (λ (p : Packet). p .c) e;
+      size = ap (λ (p : Packet). length (p .bytes)) e;
+    }
+
+-- the cell that a copy names
+pub copy-place : (sh : Shape) (x : List ℕ) (ps : List Packet) (i n : ℕ) → CopyOf (packetOf sh x n) (packetNo ps i) → sourceOf sh ps .place i ≡ n
+unfolding sourceOf packetOf
+copy-place sh x ps i n copy = rw (copy .first, copy .second, copy .third) (cell-coordinates sh n)
+
+pub record Copies (sh : Shape) (x : List ℕ) (ps : List Packet) : Type 0 where
+  pub cell : (i : ℕ) → i < length ps → (n : ℕ) × (n < cells sh) × CopyOf (packetOf sh x n) (packetNo ps i)
+  pub known : (i : ℕ) → i < length ps → agreed sh (sourceOf sh ps) (length ps) (sourceOf sh ps .place i) ≡ true → OfCell sh x (packetNo ps i)
+
+module _ (sh : Shape) (x : List ℕ) (ps : List Packet) (size : length x ≡ sh .w * cells sh) (each : Copies sh x ps) where
   pub each-sized : Sized (sh .w) ps
-  each-sized i l = let (n, h, e) = each i l in rw e (packetOf-length sh x size n h)
+  each-sized i l = let (n, h, copy) = each .cell i l in copy .size ∙ packetOf-length sh x size n h
 
   -- the cell that packet i names
   module _ (i : ℕ) (l : i < length ps) where
-    named : sourceOf sh ps .place i ≡ each i l .0
-    unfolding sourceOf packetOf
-    named = let (n, h, e) = each i l in rw e (cell-coordinates sh n)
-
     pub named-lt : sourceOf sh ps .place i < cells sh
-    named-lt = rw named (each i l .1)
-
-    named-packet : packetNo ps i ≡ packetOf sh x (sourceOf sh ps .place i)
-    named-packet = rw named (each i l .2)
-
-    named-byte : (w : ℕ) → w < sh .w → getD (packetNo ps i .bytes) w 0 ≡ layer sh x w (sourceOf sh ps .place i)
-    unfolding packetOf layer
-    named-byte w b =
-        ap (λ (k : Packet). getD (k .bytes) w 0) named-packet
-        ∙ getD-take (sh .w) (drop (sourceOf sh ps .place i * sh .w) x) w 0 b ∙ getD-drop (sourceOf sh ps .place i * sh .w) x w 0
+    named-lt = let (n, h, copy) = each .cell i l in rw (copy-place sh x ps i n copy) h
 
   -- as the receiver reads them
   module _ (c : Section) (carries : Carries (airPack sh ps) (headerFor sh) c ps) (i : ℕ) (l : i < length ps) where
@@ -48,18 +83,18 @@ module _ (sh : Shape) (x : List ℕ) (ps : List Packet) (size : length x ≡ sh 
     unfolding headerFor
     heard-place = carries-place (airPack sh ps) (headerFor sh) c ps carries i l
 
-    pub heard-byte : (w : ℕ) → w < sh .w → source (airPack sh ps) (headerFor sh) c .byte i w ≡ layer sh x w (sourceOf sh ps .place i)
-    unfolding headerFor sourceOf
-    heard-byte w b = carries .byte i w l b ∙ named-byte i l w b
+    pub heard-byte : (w : ℕ) → w < sh .w → source (airPack sh ps) (headerFor sh) c .byte i w ≡ sourceOf sh ps .byte i w
+    unfolding headerFor
+    heard-byte w b = carries .byte i w l b
 
     pub heard-range : Valid sh → InRange (airPack sh ps) (headerFor sh) c i
     unfolding headerFor packetOf
     heard-range v =
-        let e = named-packet i l in
+        let (n, h, copy) = each .cell i l in
         let one : 0 < sh .l1 = omega (arith, v .l1-low) in
         let two : 0 < sh .l2 = omega (arith, v .l2-low) in
         record {
-          first = rw (carries .first i l, e) (mod-lt _ one);
-          second = rw (carries .second i l, e) (mod-lt _ two);
-          third = rw (carries .third i l, e) (third-lt sh _ (mul-pos one two) (named-lt i l));
+          first = rw (carries .first i l, copy .first) (mod-lt _ one);
+          second = rw (carries .second i l, copy .second) (mod-lt _ two);
+          third = rw (carries .third i l, copy .third) (third-lt sh _ (mul-pos one two) h);
         }

@@ -12,5 +12,7 @@ mod Heard
 pub mod Demand3
 -- Corollaries: few lost cells come back.
 pub mod Corollaries
+-- Differing: lists in which copies of a cell differ.
+mod Differing
 -- Wrong: the wrong programs.
 pub mod Wrong

@@ -10,20 +10,14 @@ use Rattle.stopping.specs.Stopping.{number}
 use Rattle.stopping.proofs.Number.{true-or-false, number-in, number-out, number-nil, number-none, number-cong, number-remove}
 use Rattle.pack.specs.Packets.{Source}
 use Rattle.receiver.specs.Placing.{among, repeatsOf}
+use Rattle.receiver.proofs.Copies.{among-cong}
 
 -- ---- two sequences that name the same cells
 
-module _ (s t : Source) where
-  pub among-cong : (n : ℕ) → ((i : ℕ) → i < n → s .place i ≡ t .place i) → (m : ℕ) → among s n m ≡ among t n m
-  unfolding among
-  among-cong zero same m = refl
-  among-cong (suc n) same m = rw (same n (omega arith), among-cong n (λ i l. same i (omega arith)) m)
-
-  pub repeats-cong : (n : ℕ) → ((i : ℕ) → i < n → s .place i ≡ t .place i) → repeatsOf s n ≡ repeatsOf t n
-  unfolding repeatsOf
-  repeats-cong n same =
-      number-cong _ _ n
-      (λ i l. ap (among s i) (same i l) ∙ among-cong i (λ j less. same j (omega arith)) (t .place i))
+pub repeats-cong : (s t : Source) (n : ℕ) → ((i : ℕ) → i < n → s .place i ≡ t .place i) → repeatsOf s n ≡ repeatsOf t n
+unfolding repeatsOf
+repeats-cong s t n same =
+    number-cong _ _ n (λ i l. ap (among s i) (same i l) ∙ among-cong s t i (λ j less. same j (omega arith)) (t .place i))
 
 -- ---- those that repeat an earlier one, and the different ones
 

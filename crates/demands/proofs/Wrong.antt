@@ -1,9 +1,9 @@
 -- No promise allows the wrong outcomes of specs/Wrong.antt: by demand 3 a pack from which at most 26 cells are lost gives its file and nothing else,
--- no packets leave all 27 cells, and the writer's cube has right lines.
+-- no packets leave all 27 cells, nor do copies that differ alone, and the writer's cube has right lines.
 use mathlib.Core.Path.{_≡_, refl, sym, ap, _∙_}
-use mathlib.Core.Bool.{Bool, true, false, not, false≢true}
+use mathlib.Core.Bool.{Bool, true, false, not, true≢false, false≢true}
 use mathlib.Core.List.{List, [], _∷_}
-use mathlib.Core.Logic.{⊎-elim}
+use mathlib.Core.Logic.{_≢_, ⊎-elim}
 use Prim.Native.Nat.{ℕ, zero, suc, _+_, _-_, _≤_, _<_}
 use native.Mathlib.Decide.{decLt}
 use native.Mathlib.Omega.{arith}
@@ -31,13 +31,14 @@ use Rattle.receiver.specs.declared.Counts.{Counts}
 use Rattle.receiver.specs.Gathering.{Reception, file, left}
 use Rattle.receiver.specs.Receive.{Memory, ReceiveOutcome}
 use Rattle.receiver.specs.Theorems.{NoPackets}
-use Rattle.receiver.proofs.Arrivals.{earlier-among}
-use Rattle.receiver.proofs.NoPackets.{no-packets}
-use Rattle.demands.specs.Demand3.{Wrote, AllWritten, Heard, sent, lost, Lent, Demand3}
-use Rattle.demands.specs.Wrong.{small, packetsFrom, parityLeft, Excluded, wrong, AllExcluded}
+use Rattle.receiver.proofs.Copies.{earlier-among}
+use Rattle.receiver.proofs.NoPackets.{all-stopping, no-packets}
+use Rattle.demands.specs.Demand3.{Wrote, AllWritten, sent, CountHolds, IsWritten, lost, LostSet, OnlyEmpty, Lent, leftIn, Demanded, Demand3, WrittenAlone, unsent, Demand3Alone}
+use Rattle.demands.specs.Wrong.{small, cubeOf, packetsFrom, damagedFirst, lastThrice, parityLeft, Excluded, wrong, AllExcluded}
 use Rattle.demands.proofs.Writing.{done-written, fitting-wrote}
-use Rattle.demands.proofs.Demand3.{lent-passes, demand3}
+use Rattle.demands.proofs.Demand3.{lent-passes, demand3, demand3-alone}
 use Rattle.demands.proofs.Corollaries.{few-lost}
+use Rattle.demands.proofs.Differing.{first, first-heard, first-lost, thrice, thrice-heard, thrice-lost}
 
 -- ---- the packets of a cube, all but the first k
 
@@ -51,7 +52,8 @@ module _ (sh : Shape) (x : List ℕ) (k : ℕ) where
       getD-drop k (everyPacket sh x) i _ ∙ everyPacket-at sh x (k + i) (omega (arith, part-length))
 
   part-heard : (contents output : List ℕ) (s : Section) → AllWritten sh contents x output s → cells sh < 4294967296
-      → Heard sh output s (drop k (everyPacket sh x))
+      → WrittenAlone sh output s (drop k (everyPacket sh x))
+  unfolding CountHolds IsWritten
   part-heard contents output s all few =
       record {
         written = λ i l.
@@ -65,8 +67,8 @@ module _ (sh : Shape) (x : List ℕ) (k : ℕ) where
   part-place i l = rw (part-at i l) (cell-coordinates sh (k + i))
 
   -- only the first k cells are lost
-  part-lost : (n : ℕ) → n < cells sh → lost sh (drop k (everyPacket sh x)) n ≡ true → n < k
-  unfolding lost sent
+  part-lost : (n : ℕ) → n < cells sh → unsent sh (drop k (everyPacket sh x)) n ≡ true → n < k
+  unfolding unsent sent
   part-lost n l e =
       elim (decLt n k) [
         | yes less ↦ less
@@ -108,6 +110,10 @@ small-cells : cells small ≡ 27
 unfolding small cells
 small-cells = refl
 
+small-packet : 0 < small .w
+unfolding small
+small-packet = omega arith
+
 small-room : 5 ≤ capacity small
 unfolding small capacity
 small-room = omega arith
@@ -118,21 +124,46 @@ module _ (b : ℕ) (byte : b < 256) where
   one-byte zero = byte
   one-byte (suc i) = omega arith
 
-  small-wrote : Wrote (jobPack small (b ∷ [])) small (b ∷ []) (encoded reduction small (dataString small (b ∷ [])))
-      (airPack small (everyPacket small (encoded reduction small (dataString small (b ∷ [])))))
+  small-wrote : Wrote (jobPack small (b ∷ [])) small (b ∷ []) (cubeOf (b ∷ [])) (airPack small (everyPacket small (cubeOf (b ∷ []))))
+  unfolding cubeOf
   small-wrote = fitting-wrote small small-valid (b ∷ []) small-room one-byte
 
   module _ (m m′ : Memory) (value : Value Reception) (counts : Counts) (l : Lent small m) where
     -- with 26 cells lost or fewer the file comes back
     comes-back : (k : ℕ) → k ≤ 26 → ReceiveOutcome reduction (packetsFrom k (b ∷ [])) m m′ value counts
         → (value ≡ gives (file 1)) × (m′ .buffer ≡ b ∷ drop 1 (m .buffer))
-    unfolding packetsFrom Demand3
+    unfolding packetsFrom Demand3Alone Demanded
     comes-back k few o =
-        let x = encoded reduction small (dataString small (b ∷ [])) in
-        let (s, all, exact) = demand3 _ small (b ∷ []) x _ small-wrote in
+        let x = cubeOf (b ∷ []) in
+        let (s, all, exact) = demand3-alone _ small (b ∷ []) x _ small-wrote in
         let heard = part-heard small x k _ _ s all (omega (arith, small-cells)) in
-        let front = number-front (lost small (drop k (everyPacket small x))) k (cells small) (part-lost small x k) in
+        let front = number-front (unsent small (drop k (everyPacket small x))) k (cells small) (part-lost small x k) in
         few-lost (exact (drop k (everyPacket small x)) m m′ value counts heard l o) (omega arith)
+
+    -- so does it where copies of one cell differ
+    damaged-back : ReceiveOutcome reduction (airPack small (damagedFirst (b ∷ []))) m m′ value counts → value ≡ gives (file 1)
+    unfolding damagedFirst first Demand3 Demanded
+    damaged-back o =
+        let x = cubeOf (b ∷ []) in
+        let (s, all, exact) = demand3 _ small (b ∷ []) x _ small-wrote in
+        let size = all .cube .code .size in
+        let inside : 0 < cells small = omega (arith, small-cells) in
+        let heard = first-heard small x size small-packet inside _ _ s all (omega (arith, small-cells)) in
+        let front = number-front (lost small (damagedFirst (b ∷ []))) 1 (cells small) (first-lost small x size small-packet inside) in
+        few-lost (exact (damagedFirst (b ∷ [])) m m′ value counts heard l o) (omega arith) .0
+
+    -- where the copies of a cell are all that came, and differ, no file comes out
+    thrice-left : ReceiveOutcome reduction (airPack small (lastThrice (b ∷ []))) m m′ value counts → leftIn value ≢ 0
+    unfolding lastThrice thrice Demand3 Demanded OnlyEmpty LostSet
+    thrice-left o none =
+        let x = cubeOf (b ∷ []) in
+        let (s, all, exact) = demand3 _ small (b ∷ []) x _ small-wrote in
+        let size = all .cube .code .size in
+        let inside : 26 < cells small = omega (arith, small-cells) in
+        let heard = thrice-heard small x size small-packet 26 inside _ _ s all in
+        let empty = exact (lastThrice (b ∷ [])) m m′ value counts heard l o .none-exactly .0 none in
+        let full = all-stopping small small-valid (lost small (lastThrice (b ∷ []))) (λ n less. thrice-lost small x size small-packet 26 inside n) in
+        true≢false (empty (λ n. true) full 26 inside)
 
 -- with no packet every cell is left
 all-left : (m m′ : Memory) (value : Value Reception) (counts : Counts) → Lent small m → ReceiveOutcome reduction (airPack small []) m m′ value counts
@@ -166,7 +197,7 @@ no-parity xs out o =
     omega arith
 
 pub wrong-excluded : AllExcluded wrong
-unfolding AllExcluded Excluded wrong
+unfolding AllExcluded Excluded wrong leftIn
 wrong-excluded = (
   λ m m′ counts l o. left-file 1 1 (comes-back 0x08 (omega arith) m m′ _ counts l 1 (omega arith) o .0),
   (
@@ -178,7 +209,16 @@ wrong-excluded = (
             let back = comes-back 0x09 (omega arith) m m′ _ counts l 0 (omega arith) o in
             let same = other-file 0x08 0x09 (m′ .buffer) [] (drop 1 (m .buffer)) is (back .1) in
             omega arith,
-        (λ m m′ value counts l none o. none (file 1) (comes-back 0x08 (omega arith) m m′ value counts l 0 (omega arith) o .0), (no-parity, tt)),
+        (
+          λ m m′ value counts l none o. none (file 1) (comes-back 0x08 (omega arith) m m′ value counts l 0 (omega arith) o .0),
+          (
+            no-parity,
+            (
+              λ m m′ value counts l none o. none (file 1) (damaged-back 0x08 (omega arith) m m′ value counts l o),
+              (λ m m′ counts l is o. thrice-left 0x08 (omega arith) m m′ _ counts l o refl, tt),
+            ),
+          ),
+        ),
       ),
     ),
   ),

@@ -47,8 +47,6 @@ pub record MendLeaves (before after : List ℕ) (n : ℕ) : Type 0 where
 
 pub record ReceiveLeaves (p : List ℕ) (m m′ : Memory) (counts : Counts) (n : ℕ) : Type 0 where
   pub kept : OneOf keeping n → (m′ .cube ≡ m .cube) × (m′ .flags ≡ m .flags)
-  -- "12: cube all 00h, flags all 1."
-  pub conflict : n ≡ 12 → (m′ .cube ≡ replicate (length (m .cube)) 0) × (m′ .flags ≡ replicate (length (m .flags)) 1)
   -- "13: missing cells 00h, flags as before filling."
   pub contradiction : n ≡ 13 →
       (b : BeforeFilling p m) × Cleared (b .header .shape) (b .cube) (missing (b .flags)) (m′ .cube) × (m′ .flags ≡ b .flags)
@@ -88,8 +86,9 @@ packNumbers = 6 ∷ 7 ∷ 1 ∷ 2 ∷ 3 ∷ 10 ∷ 9 ∷ 8 ∷ []
 unfoldable pub writerNumbers : List ℕ
 writerNumbers = 6 ∷ 7 ∷ 1 ∷ 2 ∷ 3 ∷ 10 ∷ 9 ∷ 8 ∷ 4 ∷ []
 
+-- request P3: "Number 12 no longer occurs."
 unfoldable pub receiverNumbers : List ℕ
-receiverNumbers = 6 ∷ 7 ∷ 1 ∷ 2 ∷ 3 ∷ 10 ∷ 9 ∷ 8 ∷ 4 ∷ 11 ∷ 12 ∷ 13 ∷ 14 ∷ []
+receiverNumbers = 6 ∷ 7 ∷ 1 ∷ 2 ∷ 3 ∷ 10 ∷ 9 ∷ 8 ∷ 4 ∷ 11 ∷ 13 ∷ 14 ∷ []
 
 -- of a call that takes a shape and counts the packets of an air pack, and of one that is lent that pack
 unfoldable pub airNumbers : List ℕ

@@ -1,6 +1,6 @@
--- The third demand (document 01, "Packs"), clause by clause.
+-- The third demand (document 01, "Packs"; request P3), clause by clause.
 use mathlib.Core.Path.{_≡_}
-use mathlib.Core.Bool.{Bool, true, false, not}
+use mathlib.Core.Bool.{Bool, true, false, cond, not}
 use mathlib.Core.List.{List, _++_}
 use mathlib.Core.Logic.{_≢_, _↔_}
 use Prim.Native.Nat.{ℕ, _+_, _-_, _*_, _^_, _≤_, _<_}
@@ -19,7 +19,7 @@ use Rattle.pack.specs.Packets.{packetIn, packetNo, sourceOf}
 use Rattle.pack.specs.Reading.{headerFor, jobOf, airOf, fileOf}
 use Rattle.writer.specs.Write.{WriteOutcome}
 use Rattle.receiver.specs.declared.Counts.{Counts}
-use Rattle.receiver.specs.Placing.{among}
+use Rattle.receiver.specs.Placing.{among, conflicting}
 use Rattle.receiver.specs.Gathering.{Reception, file, left}
 use Rattle.receiver.specs.Receive.{Memory, ReceiveOutcome}
 
@@ -45,28 +45,51 @@ pub record AllWritten (sh : Shape) (contents x output : List ℕ) (s : Section) 
 
 -- ---- what is heard of it
 
--- "any list of the packets written that the count can hold: none, some or all of them, in any order, each any number of times"
-pub record Heard (sh : Shape) (output : List ℕ) (s : Section) (ps : List Packet) : Type 0 where
-  pub written : (i : ℕ) → i < length ps → (n : ℕ) × (n < s .count) × (packetNo ps i ≡ packetIn output (headerFor sh) s n)
-  pub count : length ps < 2 ^ 32
-
 -- the list has a packet for the cell n
 unfoldable pub sent : Shape → List Packet → ℕ → Bool
 sent sh ps n = among (sourceOf sh ps) (length ps) n
 
--- "it is lost when that list has no packet for it"
+-- "a cell in disagreement": the list has copies for the cell n "that are not all equal"
+unfoldable pub inConflict : Shape → List Packet → ℕ → Bool
+inConflict sh ps n = conflicting sh (sourceOf sh ps) (length ps) n
+
+-- "that the count can hold"
+unfoldable pub CountHolds : List Packet → Type 0
+CountHolds ps = length ps < 2 ^ 32
+
+-- k is one of the packets written
+unfoldable pub IsWritten : Shape → List ℕ → Section → Packet → Type 0
+IsWritten sh output s k = (n : ℕ) × (n < s .count) × (k ≡ packetIn output (headerFor sh) s n)
+
+-- k is a packet for the cell of another, with as many bytes, whatever they are
+pub record CopyOf (other k : Packet) : Type 0 where
+  pub first : k .a ≡ other .a
+  pub second : k .b ≡ other .b
+  pub third : k .c ≡ other .c
+  pub size : length (k .bytes) ≡ length (other .bytes)
+
+-- "any list of the packets written that the count can hold: none, some or all of them, in any order, each any number of times". Request P3: "The
+-- third demand's list may then also hold, for any cell that was written, copies that are not all equal, whatever their bytes".
+pub record Heard (sh : Shape) (output : List ℕ) (s : Section) (ps : List Packet) : Type 0 where
+  -- each packet is for a cell that was written
+  pub cell : (i : ℕ) → i < length ps → (n : ℕ) × (n < s .count) × CopyOf (packetIn output (headerFor sh) s n) (packetNo ps i)
+  -- and, unless the copies of that cell are not all equal, it is a packet written
+  pub written : (i : ℕ) → i < length ps → inConflict sh ps (sourceOf sh ps .place i) ≡ false → IsWritten sh output s (packetNo ps i)
+  pub count : CountHolds ps
+
+-- "it is lost when that list has no packet for it"; request P3: "a cell in disagreement counts as lost in all that the demand says"
 unfoldable pub lost : Shape → List Packet → ℕ → Bool
-lost sh ps n = not (sent sh ps n)
-
--- a set of lost cells "that meets every line of the cube in none or at least three"
-unfoldable pub LostSet : Shape → List Packet → (ℕ → Bool) → Type 0
-LostSet sh ps s = Stopping (cells sh) (IsLine sh) (lost sh ps) s
-
--- "no such nonempty set exists"
-unfoldable pub OnlyEmpty : Shape → List Packet → Type 0
-OnlyEmpty sh ps = (s : ℕ → Bool) → LostSet sh ps s → (n : ℕ) → n < cells sh → s n ≡ false
+lost sh ps n = cond (sent sh ps n) (inConflict sh ps n) true
 
 -- ---- what the receiver gives
+
+-- a set of cells out of L "that meets every line of the cube in none or at least three"
+unfoldable pub LostSet : Shape → (ℕ → Bool) → (ℕ → Bool) → Type 0
+LostSet sh L s = Stopping (cells sh) (IsLine sh) L s
+
+-- "no such nonempty set exists"
+unfoldable pub OnlyEmpty : Shape → (ℕ → Bool) → Type 0
+OnlyEmpty sh L = (s : ℕ → Bool) → LostSet sh L s → (n : ℕ) → n < cells sh → s n ≡ false
 
 -- "lent memory having the exact sizes", whatever it holds
 pub record Lent (sh : Shape) (m : Memory) : Type 0 where
@@ -81,17 +104,18 @@ leftIn (gives (left k)) = k
 leftIn (refused n) = 0
 leftIn (refused-at n i) = 0
 
--- No refusal, an exact count, and the file exactly where nothing is left.
-pub record Exact (sh : Shape) (contents x : List ℕ) (ps : List Packet) (m m′ : Memory) (value : Value Reception) (counts : Counts) : Type 0 where
+-- No refusal, an exact count, and the file exactly where nothing is left. The lost cells are those of L.
+pub record Exact (sh : Shape) (contents x : List ℕ) (ps : List Packet) (L : ℕ → Bool) (m m′ : Memory) (value : Value Reception)
+    (counts : Counts) : Type 0 where
   -- "the receiver gives no refusal"
   pub answered : (a : Reception) × (value ≡ gives a)
   -- "Its count of places left is the size of the largest set of lost places that meets every line of the cube in none or at least three":
   -- the cells flagged afterwards are such a set, every other is inside it, and none is larger.
   pub size : leftIn value ≡ number (missing (m′ .flags)) (cells sh)
-  pub largest : Largest (cells sh) (IsLine sh) (lost sh ps) (missing (m′ .flags))
-  pub most : (s : ℕ → Bool) → LostSet sh ps s → number s (cells sh) ≤ leftIn value
+  pub largest : Largest (cells sh) (IsLine sh) L (missing (m′ .flags))
+  pub most : (s : ℕ → Bool) → LostSet sh L s → number s (cells sh) ≤ leftIn value
   -- "The count is 0 exactly when no such nonempty set exists"
-  pub none-exactly : (leftIn value ≡ 0) ↔ OnlyEmpty sh ps
+  pub none-exactly : (leftIn value ≡ 0) ↔ OnlyEmpty sh L
   -- "and the file then comes back byte for byte", the rest of the buffer kept
   pub file-back : leftIn value ≡ 0 →
       (value ≡ gives (file (length contents))) × (m′ .buffer ≡ contents ++ drop (length contents) (m .buffer))
@@ -104,15 +128,36 @@ pub record Exact (sh : Shape) (contents x : List ℕ) (ps : List Packet) (m m′
   -- "File and Left also carry the packet count and the repeats": the repeats are the packets less the different cells among them
   pub packets : counts .packets ≡ length ps
   pub repeats : counts .repeats + number (sent sh ps) (cells sh) ≡ length ps
+  -- request P3: and how many cells are in disagreement
+  pub conflicts : counts .conflicts ≡ number (inConflict sh ps) (cells sh)
 
--- Demand 3, whole: "The receiver's pack has section 1 as written, section 2 count 0 and, as section 3, any list of the packets written".
-unfoldable pub Demand3 : Type 0
-Demand3 =
+-- "The receiver's pack has section 1 as written, section 2 count 0 and, as section 3, any list" that `Allowed` has; its lost cells are those of
+-- `Lost`.
+unfoldable pub Demanded : (Shape → List ℕ → Section → List Packet → Type 0) → (Shape → List Packet → ℕ → Bool) → Type 0
+Demanded Allowed Lost =
     (p : List ℕ) (sh : Shape) (contents x output : List ℕ) → Wrote p sh contents x output →
     (s : Section) × AllWritten sh contents x output s
     × ((ps : List Packet) (m m′ : Memory) (value : Value Reception) (counts : Counts) →
-    Heard sh output s ps → Lent sh m → ReceiveOutcome reduction (airPack sh ps) m m′ value counts →
-    Exact sh contents x ps m m′ value counts)
+    Allowed sh output s ps → Lent sh m → ReceiveOutcome reduction (airPack sh ps) m m′ value counts →
+    Exact sh contents x ps (Lost sh ps) m m′ value counts)
+
+-- Demand 3, whole.
+unfoldable pub Demand3 : Type 0
+Demand3 = Demanded Heard lost
+
+-- ---- document 01's own list, of packets written alone
+
+-- "any list of the packets written that the count can hold"
+pub record WrittenAlone (sh : Shape) (output : List ℕ) (s : Section) (ps : List Packet) : Type 0 where
+  pub written : (i : ℕ) → i < length ps → IsWritten sh output s (packetNo ps i)
+  pub count : CountHolds ps
+
+-- "it is lost when that list has no packet for it"
+unfoldable pub unsent : Shape → List Packet → ℕ → Bool
+unsent sh ps n = not (sent sh ps n)
+
+unfoldable pub Demand3Alone : Type 0
+Demand3Alone = Demanded WrittenAlone unsent
 
 -- ---- it is not empty
 

@@ -8,7 +8,7 @@ use Rattle.pack.specs.declared.Section.{Section}
 use Rattle.receiver.specs.Gathering.{Taken}
 use Rattle.receiver.specs.Receive.{Memory, receiveChecked}
 
--- The pack has passed its checks, every packet names a cell, no copy differs, and the packets stand in `cube` and `flags`.
+-- The pack has passed its checks, every packet names a cell, and the packets stand in `cube` and `flags`.
 pub record BeforeFilling (p : List ℕ) (m : Memory) : Type 0 where
   pub header : Header
   pub section : Section

@@ -1,16 +1,16 @@
--- Document 01, "Promises and proofs": the wrong writers and receivers that the promises must throw out. Each is an outcome that such a program
+-- Document 01, "Promises and proofs", and request P3: the wrong writers and receivers that the promises must throw out. Each is an outcome that such a program
 -- would have on the paper's own example, "shape 3, 3, 3, W 5, file 08h", and that no contract allows. Those that need no pack stand in the crate
 -- `examples`.
 use mathlib.Core.Path.{_≡_}
-use mathlib.Core.List.{List, [], _∷_, _++_}
+use mathlib.Core.List.{List, [], _∷_, _++_, map}
 use mathlib.Core.Logic.{_≢_}
-use Prim.Native.Nat.{ℕ}
+use Prim.Native.Nat.{ℕ, _+_, _%_}
 use lib.ListN.{length, drop, replicate}
 use Rattle.answer.specs.Values.{Value, gives, refused}
 use Rattle.field.specs.Field.{reduction}
 use Rattle.shape.specs.declared.Shape.{Shape}
 use Rattle.cube.specs.Encoded.{encoded}
-use Rattle.pack.specs.Packs.{jobPack, airPack, everyPacket, dataString}
+use Rattle.pack.specs.Packs.{Packet, jobPack, airPack, packetOf, everyPacket, dataString}
 use Rattle.writer.specs.Write.{WriteOutcome}
 use Rattle.receiver.specs.declared.Counts.{Counts}
 use Rattle.receiver.specs.Gathering.{Reception, file, left}
@@ -21,9 +21,26 @@ use Rattle.demands.specs.Demand3.{Lent}
 unfoldable pub small : Shape
 small = record { l1 = 3; l2 = 3; l3 = 3; w = 5 }
 
+-- the code cube of a file
+unfoldable pub cubeOf : List ℕ → List ℕ
+cubeOf contents = encoded reduction small (dataString small contents)
+
 -- a file's packets as an air pack, all but the first k
 unfoldable pub packetsFrom : ℕ → List ℕ → List ℕ
-packetsFrom k contents = airPack small (drop k (everyPacket small (encoded reduction small (dataString small contents))))
+packetsFrom k contents = airPack small (drop k (everyPacket small (cubeOf contents)))
+
+-- a copy of a packet with other bytes
+unfoldable pub damaged : Packet → Packet
+damaged k = record { a = k .a; b = k .b; c = k .c; bytes = map (λ b. (b + 1) % 256) (k .bytes) }
+
+-- every packet of a file, and before them a damaged copy of the first
+unfoldable pub damagedFirst : List ℕ → List Packet
+damagedFirst contents = damaged (packetOf small (cubeOf contents) 0) ∷ everyPacket small (cubeOf contents)
+
+-- three copies of the last packet, of which one differs
+unfoldable pub lastThrice : List ℕ → List Packet
+lastThrice contents =
+    packetOf small (cubeOf contents) 26 ∷ damaged (packetOf small (cubeOf contents) 26) ∷ packetOf small (cubeOf contents) 26 ∷ []
 
 -- the data string in its cell, 00h in all others
 unfoldable pub parityLeft : List ℕ → List ℕ
@@ -66,7 +83,11 @@ wrong =
     -- "or refuses everything"
     refuses (packetsFrom 0 (0x08 ∷ [])) ∷
     -- "a writer that copies data and leaves parity 00h"
-    writes (jobPack small (0x08 ∷ [])) (parityLeft (0x08 ∷ [])) (airPack small (everyPacket small (parityLeft (0x08 ∷ [])))) ∷ []
+    writes (jobPack small (0x08 ∷ [])) (parityLeft (0x08 ∷ [])) (airPack small (everyPacket small (parityLeft (0x08 ∷ [])))) ∷
+    -- request P3, "whichever came first": one that keeps the first copy, which contradicts the other cells
+    refuses (airPack small (damagedFirst (0x08 ∷ []))) ∷
+    -- "a third copy does not rescue it": one that takes the copy that came twice, from which alone the file would follow
+    opens (airPack small (lastThrice (0x08 ∷ []))) (0x08 ∷ []) ∷ []
 
 -- every outcome of a list is excluded
 unfoldable pub AllExcluded : List Outcome → Type 0

@@ -18,7 +18,7 @@ use Rattle.writer.specs.Write.{WriteOutcome}
 use Rattle.fill.proofs.Recovery.{left-le}
 use Rattle.pack.proofs.Sound.{air-sound}
 use Rattle.receiver.specs.declared.Counts.{Counts}
-use Rattle.receiver.specs.Gathering.{Reception, unfit, index, conflict, contradiction, some-left}
+use Rattle.receiver.specs.Gathering.{Reception, unfit, index, contradiction, some-left}
 use Rattle.receiver.specs.Receive.{Memory, ReceiveOutcome, unopened, bad-file, opened}
 use Rattle.receiver.proofs.Outcomes.{accepted-ready}
 use Rattle.jibrufath.specs.Packs.{receptionLeft}
@@ -68,8 +68,6 @@ pub receive-place-lt : {r : ℕ} {p : List ℕ} {m m′ : Memory} {v : Value Rec
 unfolding beside receptionLeft
 receive-place-lt (unopened _ _ (unfit _ _ _ _) _) small = omega arith
 receive-place-lt {p} {m} (unopened _ _ (index h s checks i l _ _ _ _) _) small =
-    omega (arith, air-sound p h s (accepted-ready p m h s checks .air) .few small)
-receive-place-lt {p} {m} (unopened _ _ (conflict h s checks _ i l _ _ _ _) _) small =
     omega (arith, air-sound p h s (accepted-ready p m h s checks .air) .few small)
 receive-place-lt (unopened _ _ (contradiction _ _ _ _ _ _ _) _) small = omega arith
 receive-place-lt (unopened _ _ (some-left _ _ _ _ _ _ _ _ filled) _) small = omega (arith, left-le filled)

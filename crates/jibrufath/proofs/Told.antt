@@ -1,4 +1,4 @@
--- A word tells its value: refusals have the numbers of document 01's table, a result has 0, and only 11, 12 and 17 name a place.
+-- A word tells its value: refusals have the numbers of document 01's table, a result has 0, and only 11 and 17 name a place.
 use mathlib.Core.Path.{_≡_, refl, sym, ap, ap₂, _∙_}
 use mathlib.Core.List.{List}
 use Prim.Native.Nat.{ℕ, _/_, _%_, _≤_, _<_}
@@ -6,13 +6,13 @@ use native.Mathlib.Omega.{arith}
 use Rattle.answer.specs.declared.Fault.{Fault}
 use Rattle.answer.specs.declared.Fault.the-variants.{Dimension, PacketSize, CubeSize, SliceLength, FlagValue, Truncated, HeaderCount, TrailingBytes, SectionCount, Capacity, Contradiction, FileLength, Erasure, Uncorrected}
 use Rattle.answer.specs.declared.PacketFault.{PacketFault}
-use Rattle.answer.specs.declared.PacketFault.the-variants.{CellIndex, Conflict}
 use Rattle.answer.specs.declared.Refusal.{Refusal}
 use Rattle.answer.specs.declared.Refusal.the-variants.{Plain, Packet, Line}
 use Rattle.answer.specs.Refusals.{faultNumber, packetFaultNumber}
 use Rattle.answer.specs.Values.{Value, gives, refused, refused-at, refusal, numberOf}
+use Rattle.answer.proofs.Values.{packet-fault-number}
 use Rattle.receiver.specs.declared.Counts.{Counts}
-use Rattle.receiver.specs.Gathering.{Reception, file, left, unfit, index, conflict, contradiction, some-left}
+use Rattle.receiver.specs.Gathering.{Reception, file, left, unfit, index, contradiction, some-left}
 use Rattle.receiver.specs.Receive.{Memory, ReceiveOutcome, unopened, bad-file, opened}
 use Rattle.jibrufath.specs.Packs.{receptionLeft, fileBytes, places}
 use Rattle.jibrufath.specs.Exports.{beside, packed}
@@ -31,34 +31,29 @@ refusal-tabled (Plain f) = fault f
 refusal-tabled (Packet f i) = packet-fault f i
 refusal-tabled (Line n) = line-fault n
 
--- a number of the table that is neither 11 nor 12
-fault-range : (f : Fault) → (1 ≤ faultNumber f) × (faultNumber f ≤ 16) × ((m : ℕ) → 11 ≤ m → m ≤ 12 → faultNumber f ≡ m → ⊥)
+-- a number of the table that is not 11
+fault-range : (f : Fault) → (1 ≤ faultNumber f) × (faultNumber f ≤ 16) × (faultNumber f ≡ 11 → ⊥)
 unfolding faultNumber
-fault-range Dimension = (omega arith, omega arith, λ m l h e. omega arith)
-fault-range PacketSize = (omega arith, omega arith, λ m l h e. omega arith)
-fault-range CubeSize = (omega arith, omega arith, λ m l h e. omega arith)
-fault-range SliceLength = (omega arith, omega arith, λ m l h e. omega arith)
-fault-range FlagValue = (omega arith, omega arith, λ m l h e. omega arith)
-fault-range Truncated = (omega arith, omega arith, λ m l h e. omega arith)
-fault-range HeaderCount = (omega arith, omega arith, λ m l h e. omega arith)
-fault-range TrailingBytes = (omega arith, omega arith, λ m l h e. omega arith)
-fault-range SectionCount = (omega arith, omega arith, λ m l h e. omega arith)
-fault-range Capacity = (omega arith, omega arith, λ m l h e. omega arith)
-fault-range Contradiction = (omega arith, omega arith, λ m l h e. omega arith)
-fault-range FileLength = (omega arith, omega arith, λ m l h e. omega arith)
-fault-range Erasure = (omega arith, omega arith, λ m l h e. omega arith)
-fault-range Uncorrected = (omega arith, omega arith, λ m l h e. omega arith)
-
-packet-fault-range : (f : PacketFault) → (11 ≤ packetFaultNumber f) × (packetFaultNumber f ≤ 12)
-unfolding packetFaultNumber
-packet-fault-range CellIndex = (omega arith, omega arith)
-packet-fault-range Conflict = (omega arith, omega arith)
+fault-range Dimension = (omega arith, omega arith, λ e. omega arith)
+fault-range PacketSize = (omega arith, omega arith, λ e. omega arith)
+fault-range CubeSize = (omega arith, omega arith, λ e. omega arith)
+fault-range SliceLength = (omega arith, omega arith, λ e. omega arith)
+fault-range FlagValue = (omega arith, omega arith, λ e. omega arith)
+fault-range Truncated = (omega arith, omega arith, λ e. omega arith)
+fault-range HeaderCount = (omega arith, omega arith, λ e. omega arith)
+fault-range TrailingBytes = (omega arith, omega arith, λ e. omega arith)
+fault-range SectionCount = (omega arith, omega arith, λ e. omega arith)
+fault-range Capacity = (omega arith, omega arith, λ e. omega arith)
+fault-range Contradiction = (omega arith, omega arith, λ e. omega arith)
+fault-range FileLength = (omega arith, omega arith, λ e. omega arith)
+fault-range Erasure = (omega arith, omega arith, λ e. omega arith)
+fault-range Uncorrected = (omega arith, omega arith, λ e. omega arith)
 
 pub tabled-number : {A : Type 0} {v : Value A} → Tabled v → numberOf v ≤ 17
 unfolding numberOf
 tabled-number (result a) = omega arith
 tabled-number (fault f) = let l : faultNumber f ≤ 17 = omega (arith, fault-range f .1) in l
-tabled-number (packet-fault f i) = let l : packetFaultNumber f ≤ 17 = omega (arith, packet-fault-range f) in l
+tabled-number (packet-fault f i) = let l : packetFaultNumber f ≤ 17 = omega (arith, packet-fault-number f) in l
 tabled-number (line-fault n) = omega arith
 
 -- neither a result nor a refusal with a place has the number of another refusal
@@ -66,10 +61,10 @@ fault-result : (f : Fault) → 0 ≡ faultNumber f → ⊥
 fault-result f e = omega (arith, fault-range f .0)
 
 packet-result : (f : PacketFault) → 0 ≡ packetFaultNumber f → ⊥
-packet-result f e = omega (arith, packet-fault-range f .0)
+packet-result f e = omega (arith, packet-fault-number f)
 
 fault-packet : (f : Fault) (g : PacketFault) → faultNumber f ≡ packetFaultNumber g → ⊥
-fault-packet f g e = fault-range f .2 (packetFaultNumber g) (packet-fault-range g .0) (packet-fault-range g .1) e
+fault-packet f g e = fault-range f .2 (e ∙ packet-fault-number g)
 
 fault-line : (f : Fault) → faultNumber f ≡ 17 → ⊥
 fault-line f e = omega (arith, fault-range f .1)
@@ -110,7 +105,6 @@ word-told count {v} {w} same s t e =
 some-left-told : {r : ℕ} {p : List ℕ} {m m′ : Memory} {v : Value Reception} {k : Counts} → ReceiveOutcome r p m m′ v k → (n : ℕ) → v ≡ gives (left n) → 0 < n
 some-left-told (unopened _ _ (unfit _ _ _ _) _) n q = let z : _≡_ {A = ℕ} 0 1 = cc in absurd (omega arith)
 some-left-told (unopened _ _ (index _ _ _ _ _ _ _ _ _) _) n q = let z : _≡_ {A = ℕ} 0 1 = cc in absurd (omega arith)
-some-left-told (unopened _ _ (conflict _ _ _ _ _ _ _ _ _ _) _) n q = let z : _≡_ {A = ℕ} 0 1 = cc in absurd (omega arith)
 some-left-told (unopened _ _ (contradiction _ _ _ _ _ _ _) _) n q = let z : _≡_ {A = ℕ} 0 1 = cc in absurd (omega arith)
 some-left-told (unopened _ _ (some-left _ _ _ _ _ _ k some _) _) n q = let e : k ≡ n = cc in omega arith
 some-left-told (bad-file _ _ _ _ _ _) n q = let z : _≡_ {A = ℕ} 0 1 = cc in absurd (omega arith)
@@ -124,8 +118,8 @@ module _ {v w : Value Reception} (some : (n : ℕ) → v ≡ gives (left n) → 
   reception-same (left k) (file m) p q e = let l = some k p in absurd (omega arith)
   reception-same (left k) (left j) p q e = ap left e
 
-abbrev counts : ℕ → ℕ → Counts
-counts packets repeats = record { packets = packets; repeats = repeats }
+abbrev counts : ℕ → ℕ → ℕ → Counts
+counts packets repeats conflicts = record { packets = packets; repeats = repeats; conflicts = conflicts }
 
 -- two outcomes with one word and the same sixteen places have one value and the same counts
 pub received-told : {r r′ : ℕ} {p p′ : List ℕ} {m n m′ n′ : Memory} {v w : Value Reception} {k j : Counts}
@@ -136,4 +130,7 @@ received-told {v} {w} {k} {j} o o′ s t e c =
     let bytes : fileBytes v ≡ fileBytes w = cc in
     let packets : k .packets ≡ j .packets = cc in
     let repeats : k .repeats ≡ j .repeats = cc in
-    (word-told receptionLeft (reception-same (some-left-told o) (some-left-told o′) bytes) s t e, ap₂ counts packets repeats)
+    let conflicts : k .conflicts ≡ j .conflicts = cc in (
+      word-told receptionLeft (reception-same (some-left-told o) (some-left-told o′) bytes) s t e,
+      ap₂ (λ (a b : ℕ). counts a b (k .conflicts)) packets repeats ∙ ap (counts (j .packets) (j .repeats)) conflicts,
+    )

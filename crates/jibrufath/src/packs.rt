@@ -16,7 +16,8 @@ pub extern "C" fn jibrufath_write_pack(job: &[u8], cube: &mut [u8], output: &mut
     crate::word(writer::write_pack(job, cube, output))
 }
 
-// Receives an air pack. The counts are the file's length, the packets and the repeats; the other 13 are kept, and always 0.
+// Receives an air pack. The counts are the file's length, the packets and the repeats, and in place 13 the cells whose copies are not all
+// equal; the other 12 are kept, and always 0.
 #[no_mangle]
 pub extern "C" fn jibrufath_receive_pack(
     air: &[u8],
@@ -34,6 +35,7 @@ pub extern "C" fn jibrufath_receive_pack(
     counts[0] = file_bytes(ending);
     counts[1] = counted.packets as u64;
     counts[2] = counted.repeats as u64;
+    counts[13] = counted.conflicts as u64;
     ending_word(ending)
 }
 

@@ -24,7 +24,7 @@ use Rattle.receiver.specs.declared.Counts.{Counts}
 use Rattle.receiver.specs.declared.Ending.{Ending}
 use Rattle.receiver.specs.declared.Ending.the-variants.{File, Left, Refused as Stopped}
 use Rattle.receiver.specs.Gathering.{Reception, file, left}
-use Rattle.receiver.specs.Gathering.{unfit, index, conflict, contradiction, some-left}
+use Rattle.receiver.specs.Gathering.{unfit, index, contradiction, some-left}
 use Rattle.receiver.specs.Opening.{held}
 use Rattle.receiver.specs.Receive.{Memory, endingValue, lent, ReceiveOutcome, unopened, bad-file, opened}
 use Rattle.receiver.proofs.Outcomes.{accepted-ready}
@@ -121,7 +121,6 @@ module _ (p : List ℕ) (h : Header) (s : Section) (short : length p ≤ 65536) 
 file-le : {r : ℕ} {p : List ℕ} {m m′ : Memory} {v : Value Reception} {k : Counts} → ReceiveOutcome r p m m′ v k → (n : ℕ) → v ≡ gives (file n) → n ≤ length (m .buffer)
 file-le (unopened _ _ (unfit _ _ _ _) _) n q = let z : _≡_ {A = ℕ} 0 1 = cc in absurd (omega arith)
 file-le (unopened _ _ (index _ _ _ _ _ _ _ _ _) _) n q = let z : _≡_ {A = ℕ} 0 1 = cc in absurd (omega arith)
-file-le (unopened _ _ (conflict _ _ _ _ _ _ _ _ _ _) _) n q = let z : _≡_ {A = ℕ} 0 1 = cc in absurd (omega arith)
 file-le (unopened _ _ (contradiction _ _ _ _ _ _ _) _) n q = let z : _≡_ {A = ℕ} 0 1 = cc in absurd (omega arith)
 file-le (unopened _ _ (some-left _ _ _ _ _ _ _ _ _) _) n q = let z : _≡_ {A = ℕ} 0 1 = cc in absurd (omega arith)
 file-le (bad-file _ _ _ _ _ _) n q = let z : _≡_ {A = ℕ} 0 1 = cc in absurd (omega arith)

@@ -2,15 +2,14 @@
 -- it determines the flags and the known bytes with which filling starts, and these determine what filling leaves; a whole cube has one data
 -- string, which holds one file or none.
 use mathlib.Core.Path.{_≡_, refl, sym, ap, _∙_}
-use mathlib.Core.Bool.{true, false, true≢false}
+use mathlib.Core.Bool.{Bool, true, false, cond, true≢false}
 use mathlib.Core.List.{List, _++_}
-use mathlib.Core.Logic.{⊎-elim}
 use Prim.Native.Nat.{ℕ, zero, suc, _-_, _^_, _≤_, _<_}
 use native.Mathlib.Decide.{decLt}
 use native.Mathlib.Omega.{arith}
-use lib.ListN.{length, getD, drop, replicate}
+use lib.Dec.{eqb}
+use lib.ListN.{length, getD, drop}
 use lib.Seq.{ext-getD}
-use borrow.Author.Tests.{eq-eqb}
 use Rattle.answer.specs.Values.{Value, gives, refused, refused-at, Checked, passes, fails}
 use Rattle.answer.proofs.Values.{passes-injective}
 use Rattle.field.specs.Field.{Primitive}
@@ -18,7 +17,6 @@ use Rattle.shape.specs.declared.Shape.{Shape}
 use Rattle.shape.specs.Shapes.{Valid, cells, capacity}
 use Rattle.shape.specs.Flags.{missing}
 use Rattle.data.specs.Data.{layer, heldData}
-use Rattle.stopping.proofs.Number.{true-or-false}
 use Rattle.fill.specs.Fill.{CellsLeft, FillOutcome}
 use Rattle.fill.specs.Theorems.{SameKnown}
 use Rattle.fill.proofs.Unique.{Same, outcome-determined, outcome-known}
@@ -28,25 +26,27 @@ use Rattle.cursor.specs.Steps.{word}
 use Rattle.pack.specs.Packs.{dataString}
 use Rattle.pack.specs.Packets.{Source, source, InRange}
 use Rattle.receiver.specs.declared.Counts.{Counts}
-use Rattle.receiver.specs.Placing.{Conflicting, among, Placed}
+use Rattle.receiver.specs.Placing.{agreed, flagAt, Placed}
 use Rattle.receiver.specs.Gathering.{Reception, file, left, Gathered, ends, whole, countsOf, noCounts, Taken, GatherOutcome}
 use Rattle.receiver.specs.Opening.{BadFile, OpenOutcome}
 use Rattle.receiver.specs.Receive.{Memory, receiveChecked, ReceiveOutcome}
 use Rattle.receiver.specs.Theorems.{NothingLeftOpen}
 use Rattle.receiver.proofs.Bytes.{clash}
-use Rattle.receiver.proofs.Arrivals.{among-earlier, flag-missing}
+use Rattle.receiver.proofs.Copies.{among-earlier, agreed-then}
 use Rattle.receiver.proofs.Outcomes.{accepted-ready, placed-checked}
 use Rattle.pack.proofs.DataStrings.{capacity-le, data-word, data-later, data-injective}
 
 -- ---- placing
 
--- a cell that is not missing came
-placed-came : {sh : Shape} {s : Source} {n : ℕ} {xs fs : List ℕ} → Placed sh s n xs fs → (m : ℕ) → m < cells sh → missing fs m ≡ false → among s n m ≡ true
-unfolding missing
-placed-came {sh} {s} {n} {xs} {fs} placed m l e =
-    ⊎-elim (λ t. t)
-    (λ (f : among s n m ≡ false). absurd (true≢false (sym (eq-eqb (getD fs m 0) 1 (placed .flags m l ∙ flag-missing s n m f)) ∙ e)))
-    (true-or-false (among s n m))
+-- a cell that is not missing came, and its copies are all equal
+pub placed-agreed : {sh : Shape} {s : Source} {n : ℕ} {xs fs : List ℕ} → Placed sh s n xs fs → (m : ℕ) → m < cells sh → missing fs m ≡ false
+    → agreed sh s n m ≡ true
+unfolding missing flagAt
+placed-agreed {sh} {s} {n} {xs} {fs} placed m l e = known (agreed sh s n m) (rw (placed .flags m l) at e)
+  where
+    known : (b : Bool) → eqb (cond b 0 1) 1 ≡ false → b ≡ true
+    known true f = refl
+    known false f = absurd (true≢false f)
 
 -- the packets determine the flags
 pub placed-flags : {sh : Shape} {s : Source} {n : ℕ} {xs fs ys gs : List ℕ} → Placed sh s n xs fs → Placed sh s n ys gs → fs ≡ gs
@@ -60,8 +60,10 @@ placed-known {sh} {s} {n} {xs} {fs} {ys} {gs} a b =
     record {
       size = a .cube-size ∙ sym (b .cube-size);
       known = λ m w l h e.
-          let (i, less, same) = among-earlier s n m (placed-came a m l e) in
-          ap (layer sh xs w) (sym same) ∙ a .bytes i less w h ∙ sym (b .bytes i less w h) ∙ ap (layer sh ys w) same;
+          let equal = placed-agreed a m l e in
+          let (i, less, same) = among-earlier s n m (agreed-then sh s n m equal .came) in
+          let here : agreed sh s n (s .place i) ≡ true = ap (agreed sh s n) same ∙ equal in
+          ap (layer sh xs w) (sym same) ∙ a .bytes i less here w h ∙ sym (b .bytes i less here w h) ∙ ap (layer sh ys w) same;
     }
 
 -- so they determine what filling answers and leaves
@@ -102,22 +104,16 @@ pub data Stage (r : ℕ) (p : List ℕ) (checks : Checked (Header × Section)) (
       (a : Header × Section) → checks ≡ passes a →
       (i : ℕ) → i < a .1 .count → (InRange p (a .0) (a .1) i → ⊥) → ((j : ℕ) → j < i → InRange p (a .0) (a .1) j) →
       xs′ ≡ xs → fs′ ≡ fs → Stage r p checks xs fs xs′ fs′ (ends (refused-at 11 i)) noCounts
-  conflict :
-      (a : Header × Section) → checks ≡ passes a → ((i : ℕ) → i < a .1 .count → InRange p (a .0) (a .1) i) →
-      (i : ℕ) → i < a .1 .count → Conflicting (a .0 .shape) (source p (a .0) (a .1)) i →
-      ((j : ℕ) → j < i → Conflicting (a .0 .shape) (source p (a .0) (a .1)) j → ⊥) →
-      xs′ ≡ replicate (length xs) 0 → fs′ ≡ replicate (length fs) 1 → Stage r p checks xs fs xs′ fs′ (ends (refused-at 12 i)) noCounts
   filled :
       (a : Header × Section) → checks ≡ passes a → (xs₁ fs₁ : List ℕ) → Taken p (a .0) (a .1) xs₁ fs₁ →
       (v : Value CellsLeft) → FillOutcome r (a .0 .shape) xs₁ fs₁ xs′ fs′ v →
-      Stage r p checks xs fs xs′ fs′ (filledAs v) (countedAs (countsOf (source p (a .0) (a .1))) v)
+      Stage r p checks xs fs xs′ fs′ (filledAs v) (countedAs (countsOf (a .0 .shape) (source p (a .0) (a .1))) v)
 
 pub stage : {r : ℕ} {p : List ℕ} {checks : Checked (Header × Section)} {xs fs xs′ fs′ : List ℕ} {g : Gathered} {k : Counts}
     → GatherOutcome r p checks xs fs xs′ fs′ g k → Stage r p checks xs fs xs′ fs′ g k
 unfolding filledAs countedAs
 stage (GatherOutcome.unfit n c x y) = unfit n c x y
 stage (GatherOutcome.index h s c i l out before x y) = index (h, s) c i l out before x y
-stage (GatherOutcome.conflict h s c ins i l con none x y) = conflict (h, s) c ins i l con none x y
 stage (GatherOutcome.contradiction h s c xs₁ fs₁ t o) = filled (h, s) c xs₁ fs₁ t (refused 13) o
 stage (GatherOutcome.some-left h s c xs₁ fs₁ t zero l o) = absurd (omega arith)
 stage (GatherOutcome.some-left h s c xs₁ fs₁ t (suc k) l o) = filled (h, s) c xs₁ fs₁ t (gives (CellsLeft.left (suc k))) o
@@ -137,7 +133,6 @@ same-stage primitive valid (unfit n c x y) (unfit n′ c′ x′ y′) =
     let same : n ≡ n′ = cc in
     record { ending = ap (λ (m : ℕ). ends (refused m)) same; counts = refl; cube = x ∙ sym x′; flags = y ∙ sym y′ }
 same-stage primitive valid (unfit n c x y) (index a c′ i l out before x′ y′) = clash cc
-same-stage primitive valid (unfit n c x y) (conflict a c′ ins i l con none x′ y′) = clash cc
 same-stage primitive valid (unfit n c x y) (filled a c′ xs₁ fs₁ t v o) = clash cc
 same-stage primitive valid (index a c i l out before x y) (unfit n c′ x′ y′) = clash cc
 same-stage {r} {p} primitive valid (index a c i l out before x y) (index a′ c′ i′ l′ out′ before′ x′ y′) =
@@ -145,36 +140,19 @@ same-stage {r} {p} primitive valid (index a c i l out before x y) (index a′ c�
     let e : i ≡ i′ = first-same (λ (j : ℕ). InRange p (a .0) (a .1) j → ⊥) i i′ out (λ j h no. no (before j h)) (rw same at out′)
     (λ j h no. no ((rw same at before′) j h)) in
     record { ending = ap (λ (j : ℕ). ends (refused-at 11 j)) e; counts = refl; cube = x ∙ sym x′; flags = y ∙ sym y′ }
-same-stage primitive valid (index a c i l out before x y) (conflict a′ c′ ins i′ l′ con none x′ y′) =
-    let same : a′ ≡ a = cc in
-    absurd (out ((rw same at ins) i l))
 same-stage primitive valid (index a c i l out before x y) (filled a′ c′ xs₁ fs₁ t v o) =
     let same : a′ ≡ a = cc in
     absurd (out ((rw same at (t .indexes)) i l))
-same-stage primitive valid (conflict a c ins i l con none x y) (unfit n c′ x′ y′) = clash cc
-same-stage primitive valid (conflict a c ins i l con none x y) (index a′ c′ i′ l′ out before x′ y′) =
-    let same : a ≡ a′ = cc in
-    absurd (out ((rw same at ins) i′ l′))
-same-stage {r} {p} primitive valid (conflict a c ins i l con none x y) (conflict a′ c′ ins′ i′ l′ con′ none′ x′ y′) =
-    let same : a′ ≡ a = cc in
-    let e : i ≡ i′ = first-same (λ (j : ℕ). Conflicting (a .0 .shape) (source p (a .0) (a .1)) j) i i′ con none (rw same at con′) (rw same at none′) in
-    record { ending = ap (λ (j : ℕ). ends (refused-at 12 j)) e; counts = refl; cube = x ∙ sym x′; flags = y ∙ sym y′ }
-same-stage primitive valid (conflict a c ins i l con none x y) (filled a′ c′ xs₁ fs₁ t v o) =
-    let same : a′ ≡ a = cc in
-    absurd ((rw same at (t .agree)) i l con)
 same-stage primitive valid (filled a c xs₁ fs₁ t v o) (unfit n c′ x′ y′) = clash cc
 same-stage primitive valid (filled a c xs₁ fs₁ t v o) (index a′ c′ i l out before x′ y′) =
     let same : a ≡ a′ = cc in
     absurd (out ((rw same at (t .indexes)) i l))
-same-stage primitive valid (filled a c xs₁ fs₁ t v o) (conflict a′ c′ ins i l con none x′ y′) =
-    let same : a ≡ a′ = cc in
-    absurd ((rw same at (t .agree)) i l con)
 same-stage {r} {p} primitive valid (filled a c xs₁ fs₁ t v o) (filled a′ c′ xs₂ fs₂ t′ v′ o′) =
     let same : a′ ≡ a = cc in
     let all = filled-same primitive (valid a c) (t .placed) (rw same at (t′ .placed)) o (rw same at o′) in
     record {
       ending = ap filledAs (all .answer);
-      counts = rw same (ap (countedAs (countsOf (source p (a .0) (a .1)))) (all .answer));
+      counts = rw same (ap (countedAs (countsOf (a .0 .shape) (source p (a .0) (a .1)))) (all .answer));
       cube = all .cube;
       flags = all .flags;
     }

@@ -1,6 +1,8 @@
 -- The laws of the crate.
 -- Bytes: small laws of lists and answers.
 mod Bytes
+-- Copies: the copies of a cell, and where all are equal.
+pub mod Copies
 -- Arrivals: the cube and flags as packets are placed.
 pub mod Arrivals
 -- HeldFile: the file that a data string holds, opened.

@@ -9,7 +9,7 @@ use lib.ListN.{length, getD, replicate, length-replicate}
 use borrow.Author.Tests.{eq-eqb}
 use Rattle.answer.specs.Values.{Value, gives, Checked, passes}
 use Rattle.shape.specs.declared.Shape.{Shape}
-use Rattle.shape.specs.Shapes.{Valid, cells, IsLine}
+use Rattle.shape.specs.Shapes.{Valid, both, cells, IsLine}
 use Rattle.shape.specs.Flags.{missing}
 use Rattle.shape.proofs.Geometry.{cell-lt-cells, line-cell-lt, line-length-low}
 use Rattle.data.specs.Data.{layer}
@@ -21,12 +21,11 @@ use Rattle.pack.specs.declared.Header.{Header}
 use Rattle.pack.specs.declared.Section.{Section}
 use Rattle.pack.specs.Packets.{source}
 use Rattle.receiver.specs.declared.Counts.{Counts}
-use Rattle.receiver.specs.Placing.{among, Placed}
+use Rattle.receiver.specs.Placing.{among, agreed, flagAt, Placed}
 use Rattle.receiver.specs.Gathering.{Reception, left, Gathered, ends, GatherOutcome}
 use Rattle.receiver.specs.Receive.{Memory, receiveChecked, ReceiveOutcome}
 use Rattle.receiver.specs.Theorems.{NoPackets}
 use Rattle.receiver.proofs.Bytes.{clash}
-use Rattle.receiver.proofs.Arrivals.{flag-missing}
 use Rattle.receiver.proofs.Outcomes.{accepted-ready, placed-checked}
 use Rattle.receiver.proofs.Determined.{filledAs, Stage, stage}
 
@@ -37,18 +36,18 @@ zero-at (suc n) (suc p) = zero-at n p
 
 -- ---- a filling with every cell missing
 
-module _ (sh : Shape) (v : Valid sh) (fs : List ℕ) (all : (n : ℕ) → n < cells sh → missing fs n ≡ true) where
-  all-stopping : Stopping (cells sh) (IsLine sh) (missing fs) (λ n. true)
-  unfolding onLine
-  all-stopping =
-      record {
-        inside = λ n l e. all n l;
-        meets = λ f s n l. inr (rw (number-all (λ i. true) n (λ i m. refl)) (line-length-low sh f s n v l));
-      }
+pub all-stopping : (sh : Shape) → Valid sh → (M : ℕ → Bool) → ((n : ℕ) → n < cells sh → M n ≡ true) → Stopping (cells sh) (IsLine sh) M (λ n. true)
+unfolding onLine
+all-stopping sh v M all =
+    record {
+      inside = λ n l e. all n l;
+      meets = λ f s n l. inr (rw (number-all (λ i. true) n (λ i m. refl)) (line-length-low sh f s n v l));
+    }
 
+module _ (sh : Shape) (v : Valid sh) (fs : List ℕ) (all : (n : ℕ) → n < cells sh → missing fs n ≡ true) where
   -- no line is without a cell of K
   all-left : (K : ℕ → Bool) → Largest (cells sh) (IsLine sh) (missing fs) K → (n : ℕ) → n < cells sh → K n ≡ true
-  all-left K k n l = k .every (λ n. true) all-stopping n l refl
+  all-left K k n l = k .every (λ n. true) (all-stopping sh v (missing fs) all) n l refl
 
   line-left : (K : ℕ → Bool) → Largest (cells sh) (IsLine sh) (missing fs) K → (f s n : ℕ) → IsLine sh f s n → onLine K f s n ≡ 0 → ⊥
   unfolding onLine
@@ -82,18 +81,14 @@ module _ (sh : Shape) (v : Valid sh) (fs : List ℕ) (all : (n : ℕ) → n < ce
 
 placed-missing : (sh : Shape) (p : List ℕ) (h : Header) (s : Section) (xs fs : List ℕ) → Placed sh (source p h s) 0 xs fs
     → (n : ℕ) → n < cells sh → missing fs n ≡ true
-unfolding missing among
-placed-missing sh p h s xs fs placed n l = eq-eqb _ _ (placed .flags n l ∙ flag-missing (source p h s) 0 n refl)
+unfolding missing among agreed both flagAt
+placed-missing sh p h s xs fs placed n l = eq-eqb _ _ (placed .flags n l)
 
 none-gathered : {r : ℕ} {p : List ℕ} {checks : Checked (Header × Section)} {xs fs ys gs : List ℕ} {g : Gathered} {k : Counts} (a : Header × Section)
     → Valid (a .0 .shape) → checks ≡ passes a → a .1 .count ≡ 0 → Stage r p checks xs fs ys gs g k
     → g ≡ filledAs (gives (CellsLeft.left (cells (a .0 .shape))))
 none-gathered a v accepted none (Stage.unfit n failed x y) = clash cc
 none-gathered a v accepted none (Stage.index b c i l out before x y) =
-    let same : b ≡ a = cc in
-    let less : i < a .1 .count = rw same at l in
-    absurd (omega arith)
-none-gathered a v accepted none (Stage.conflict b c ins i l con before x y) =
     let same : b ≡ a = cc in
     let less : i < a .1 .count = rw same at l in
     absurd (omega arith)

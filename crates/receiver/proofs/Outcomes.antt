@@ -5,10 +5,10 @@ use mathlib.Core.List.{List, [], _∷_}
 use Prim.Native.Nat.{ℕ, suc, _-_, _*_, _≤_, _<_}
 use native.Mathlib.Omega.{arith}
 use lib.Dec.{eqb, leb}
-use lib.ListN.{length, getD, replicate}
+use lib.ListN.{length, getD}
 use borrow.Author.Tests.{eq-eqb, eqb-true, le-leb}
 use Rattle.answer.specs.declared.Fault.the-variants.{SliceLength, Contradiction, FileLength}
-use Rattle.answer.specs.declared.PacketFault.the-variants.{CellIndex, Conflict}
+use Rattle.answer.specs.declared.PacketFault.the-variants.{CellIndex}
 use Rattle.answer.specs.declared.Refusal.{Refusal}
 use Rattle.answer.specs.declared.Refusal.the-variants.{Plain, Packet}
 use Rattle.answer.specs.Refusals.{faultNumber, packetFaultNumber}
@@ -38,19 +38,16 @@ use Rattle.receiver.specs.declared.Ending.{Ending}
 use Rattle.receiver.specs.declared.Ending.the-variants.{File, Left, Refused}
 use Rattle.receiver.specs.declared.gathering.Gathering.{Gathering}
 use Rattle.receiver.specs.declared.gathering.Gathering.the-variants.{Ends, Whole}
-use Rattle.receiver.specs.declared.placing.Placing.{Placing}
-use Rattle.receiver.specs.declared.placing.Placing.the-variants.{Repeats, Differs}
 use Rattle.receiver.specs.declared.file.Opening.{Opening}
 use Rattle.receiver.specs.declared.file.Opening.the-variants.{Held, Bad}
 use Rattle.receiver.specs.Placing.{Placed}
-use Rattle.receiver.specs.Gathering.{Reception, file, left, countsOf, noCounts, Taken, GatherOutcome, unfit, index, conflict, contradiction, some-left, none-left}
+use Rattle.receiver.specs.Gathering.{Reception, file, left, countsOf, noCounts, Taken, GatherOutcome, unfit, index, contradiction, some-left, none-left}
 use Rattle.receiver.specs.Opening.{OpenOutcome}
 use Rattle.receiver.specs.Receive.{endingValue, Memory, lent, slicesFit, receiveChecked, ReceiveOutcome, unopened, bad-file, opened}
 use Rattle.receiver.specs.Inner.Gathering.{gatheringValue, gatheringCounts}
-use Rattle.receiver.specs.Inner.Placing.{Placement}
 use Rattle.receiver.specs.Inner.File.{openingValue}
 use Rattle.receiver.proofs.Bytes.{clash}
-use Rattle.receiver.proofs.Arrivals.{flag-le, placement-repeats, placement-differs}
+use Rattle.receiver.proofs.Arrivals.{flag-le}
 
 -- ---- a pack that is accepted
 
@@ -91,7 +88,7 @@ flags-listed (f ∷ fs) h =
     both-true (leb f 1) (flagsValid fs) (le-leb f 1 (h 0 (omega arith))) (flags-listed fs (λ m l. h (suc m) (omega arith)))
 
 pub placed-valid : (sh : Shape) (s : Source) (n : ℕ) (xs fs : List ℕ) → Placed sh s n xs fs → flagsValid fs ≡ true
-placed-valid sh s n xs fs placed = flags-listed fs (λ m l. rw (placed .flags m (omega (arith, placed .flags-size))) (flag-le s n m))
+placed-valid sh s n xs fs placed = flags-listed fs (λ m l. rw (placed .flags m (omega (arith, placed .flags-size))) (flag-le sh s n m))
 
 -- so they pass the filling's checks
 pub placed-checked : (sh : Shape) (s : Source) (n : ℕ) (xs fs : List ℕ) → Valid sh → Placed sh s n xs fs
@@ -128,14 +125,6 @@ module _ (p : List ℕ) (checks : Checked (Header × Section)) (xs fs : List ℕ
   unfolding gatheringValue gatheringCounts endingValue refusal packetFaultNumber
   gathered-index i end l out before is = rw is (index h s accepted i l out before refl refl)
 
-  pub gathered-conflict : ((i : ℕ) → i < s .count → InRange p h s i) → (ys gs : List ℕ) (r : Placing) (i : ℕ) (end : Gathering)
-      → Placement (h .shape) (source p h s) (s .count) ys gs r → r ≡ Differs i → ys ≡ replicate (length xs) 0 → gs ≡ replicate (length fs) 1
-      → end ≡ ended (Packet Conflict i) → GatherOutcome reduction p checks xs fs ys gs (gatheringValue end) (gatheringCounts end)
-  unfolding gatheringValue gatheringCounts endingValue refusal packetFaultNumber
-  gathered-conflict indexes ys gs r i end o e zeros ones is =
-      let (l, c, none) = placement-differs _ _ _ _ _ _ r o e in
-      rw is (conflict h s accepted indexes i l c none zeros ones)
-
   module _ (xs₁ fs₁ ys gs : List ℕ) (taken : Taken p h s xs₁ fs₁) (a : FillAnswer) (fill : FillOutcome reduction (h .shape) xs₁ fs₁ ys gs (fillValue a)) where
     pub gathered-contradiction : (f : Refusal) (end : Gathering) → Valid (h .shape) → a ≡ Unfilled f → end ≡ ended (Plain Contradiction)
         → GatherOutcome reduction p checks xs fs ys gs (gatheringValue end) (gatheringCounts end)
@@ -144,7 +133,7 @@ module _ (p : List ℕ) (checks : Checked (Header × Section)) (xs fs : List ℕ
         let done = placed-checked _ _ _ _ _ v (taken .placed) in
         rw is (contradiction h s accepted xs₁ fs₁ taken (refused-13 _ _ _ _ _ a f done fill e))
 
-    module _ (k : ℕ) (counts : Counts) (e : a ≡ Stays k) (count : counts ≡ countsOf (source p h s)) where
+    module _ (k : ℕ) (counts : Counts) (e : a ≡ Stays k) (count : counts ≡ countsOf (h .shape) (source p h s)) where
       pub gathered-left : (k ≡ 0 → ⊥)
           → GatherOutcome reduction p checks xs fs ys gs (gatheringValue (Ends (Left k) counts)) (gatheringCounts (Ends (Left k) counts))
       unfolding gatheringValue gatheringCounts endingValue
@@ -153,15 +142,6 @@ module _ (p : List ℕ) (checks : Checked (Header × Section)) (xs fs : List ℕ
       pub gathered-whole : k ≡ 0 → GatherOutcome reduction p checks xs fs ys gs (gatheringValue (Whole counts)) (gatheringCounts (Whole counts))
       unfolding gatheringValue gatheringCounts
       gathered-whole none = rw count (none-left h s accepted xs₁ fs₁ taken (rw none at (left-outcome a k fill e)))
-
--- the packets placed are taken
-pub taken-all : (p : List ℕ) (h : Header) (s : Section) → ((i : ℕ) → i < s .count → InRange p h s i) → (ys gs : List ℕ) (r : Placing) (k : ℕ)
-    → Placement (h .shape) (source p h s) (s .count) ys gs r → r ≡ Repeats k
-    → Taken p h s ys gs × (_≡_ {A = Counts} (record { packets = s .count; repeats = k }) (countsOf (source p h s)))
-unfolding countsOf source
-taken-all p h s indexes ys gs r k o e =
-    let (placed, none, count) = placement-repeats _ _ _ k ys gs r o e in
-    (record { indexes = indexes; agree = none; placed = placed }, rw count)
 
 -- ---- each end of the call
 

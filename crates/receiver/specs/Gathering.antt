@@ -3,14 +3,14 @@
 use mathlib.Core.Path.{_≡_}
 use mathlib.Core.List.{List}
 use Prim.Native.Nat.{ℕ, _<_}
-use lib.ListN.{length, replicate}
+use Rattle.shape.specs.declared.Shape.{Shape}
 use Rattle.answer.specs.Values.{Value, gives, refused, refused-at, Checked, passes, fails}
 use Rattle.fill.specs.Fill.{CellsLeft, FillOutcome}
 use Rattle.pack.specs.declared.Header.{Header}
 use Rattle.pack.specs.declared.Section.{Section}
 use Rattle.pack.specs.Packets.{Source, source, InRange}
 use Rattle.receiver.specs.declared.Counts.{Counts}
-use Rattle.receiver.specs.Placing.{Conflicting, repeatsOf, Placed}
+use Rattle.receiver.specs.Placing.{repeatsOf, conflictsOf, Placed}
 
 -- "answers File (length), Left (K's size)"
 pub data Reception : Type 0 where
@@ -22,18 +22,17 @@ pub data Gathered : Type 0 where
   ends : Value Reception → Gathered
   whole : Gathered
 
--- "File and Left also carry the packet count and the repeats"
-unfoldable pub countsOf : Source → Counts
-countsOf s = record { packets = s .count; repeats = repeatsOf s (s .count) }
+-- "File and Left also carry the packet count and the repeats"; request P3: beside them the cells whose copies are not all equal
+unfoldable pub countsOf : Shape → Source → Counts
+countsOf sh s = record { packets = s .count; repeats = repeatsOf s (s .count); conflicts = conflictsOf sh s (s .count) }
 
 -- "all counts with it are 0"
 unfoldable pub noCounts : Counts
-noCounts = record { packets = 0; repeats = 0 }
+noCounts = record { packets = 0; repeats = 0; conflicts = 0 }
 
--- Every packet names a cell (11), no copy differs (12), and the packets stand in xs₁ and fs₁.
+-- Every packet names a cell (11), and the packets stand in xs₁ and fs₁.
 pub record Taken (p : List ℕ) (h : Header) (s : Section) (xs₁ fs₁ : List ℕ) : Type 0 where
   pub indexes : (i : ℕ) → i < s .count → InRange p h s i
-  pub agree : (i : ℕ) → i < s .count → Conflicting (h .shape) (source p h s) i → ⊥
   pub placed : Placed (h .shape) (source p h s) (s .count) xs₁ fs₁
 
 -- What a pack whose checks come to `checks` gives, and leaves in the cube and the flags.
@@ -48,13 +47,6 @@ pub data GatherOutcome (r : ℕ) (p : List ℕ) (checks : Checked (Header × Sec
       (i : ℕ) → i < s .count → (InRange p h s i → ⊥) → ((j : ℕ) → j < i → InRange p h s j) →
       xs′ ≡ xs → fs′ ≡ fs →
       GatherOutcome r p checks xs fs xs′ fs′ (ends (refused-at 11 i)) noCounts
-  -- "cell came before with other bytes". "12: cube all 00h, flags all 1."
-  conflict :
-      (h : Header) (s : Section) → checks ≡ passes (h, s) → ((i : ℕ) → i < s .count → InRange p h s i) →
-      (i : ℕ) → i < s .count → Conflicting (h .shape) (source p h s) i →
-      ((j : ℕ) → j < i → Conflicting (h .shape) (source p h s) j → ⊥) →
-      xs′ ≡ replicate (length xs) 0 → fs′ ≡ replicate (length fs) 1 →
-      GatherOutcome r p checks xs fs xs′ fs′ (ends (refused-at 12 i)) noCounts
   -- "no filling exists"
   contradiction :
       (h : Header) (s : Section) → checks ≡ passes (h, s) → (xs₁ fs₁ : List ℕ) → Taken p h s xs₁ fs₁ →
@@ -64,9 +56,9 @@ pub data GatherOutcome (r : ℕ) (p : List ℕ) (checks : Checked (Header × Sec
   some-left :
       (h : Header) (s : Section) → checks ≡ passes (h, s) → (xs₁ fs₁ : List ℕ) → Taken p h s xs₁ fs₁ →
       (k : ℕ) → 0 < k → FillOutcome r (h .shape) xs₁ fs₁ xs′ fs′ (gives (CellsLeft.left k)) →
-      GatherOutcome r p checks xs fs xs′ fs′ (ends (gives (left k))) (countsOf (source p h s))
+      GatherOutcome r p checks xs fs xs′ fs′ (ends (gives (left k))) (countsOf (h .shape) (source p h s))
   -- "nothing is left"
   none-left :
       (h : Header) (s : Section) → checks ≡ passes (h, s) → (xs₁ fs₁ : List ℕ) → Taken p h s xs₁ fs₁ →
       FillOutcome r (h .shape) xs₁ fs₁ xs′ fs′ (gives (CellsLeft.left 0)) →
-      GatherOutcome r p checks xs fs xs′ fs′ whole (countsOf (source p h s))
+      GatherOutcome r p checks xs fs xs′ fs′ whole (countsOf (h .shape) (source p h s))

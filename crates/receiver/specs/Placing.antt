@@ -1,42 +1,59 @@
--- Packets placed one after another (document 01, "Packs"): a sequence of packets, each with the cell it names and its bytes.
+-- Packets placed one after another (document 01, "Packs"; request P3): a sequence of packets, each with the cell it names and its bytes.
 use mathlib.Core.Path.{_≡_}
-use mathlib.Core.Bool.{Bool, true, false, cond}
+use mathlib.Core.Bool.{Bool, true, false, cond, not}
 use mathlib.Core.List.{List}
-use mathlib.Core.Logic.{_≢_}
 use Prim.Native.Nat.{ℕ, zero, suc, _*_, _<_}
 use lib.Dec.{eqb}
 use lib.ListN.{length, getD}
 use Rattle.shape.specs.declared.Shape.{Shape}
-use Rattle.shape.specs.Shapes.{cells}
+use Rattle.shape.specs.Shapes.{both, cells}
 use Rattle.data.specs.Data.{layer}
 use Rattle.stopping.specs.Stopping.{number}
 use Rattle.pack.specs.Packets.{Source}
-
--- "cell came before with other bytes"
-pub record Conflicting (sh : Shape) (s : Source) (i : ℕ) : Type 0 where
-  pub earlier : ℕ
-  pub before : earlier < i
-  pub same : s .place earlier ≡ s .place i
-  pub layer : ℕ
-  pub inside : layer < sh .w
-  pub other : s .byte earlier layer ≢ s .byte i layer
 
 -- one of the first n packets names cell m
 unfoldable pub among : Source → ℕ → ℕ → Bool
 among s zero m = false
 among s (suc n) m = cond (eqb (s .place n) m) true (among s n m)
 
--- "the repeats (packets whose cell had come before)"
+-- "Repeats count every copy after the first": the packets whose cell had come before
 unfoldable pub repeatsOf : Source → ℕ → ℕ
 repeatsOf s n = number (λ i. among s i (s .place i)) n
 
--- the flag of cell m once n packets are placed: 0 known, 1 missing
-unfoldable pub flagAt : Source → ℕ → ℕ → ℕ
-flagAt s n m = cond (among s n m) 0 1
+-- P holds of every number below n
+unfoldable pub every : ℕ → (ℕ → Bool) → Bool
+every zero P = true
+every (suc n) P = both (P n) (every n P)
 
--- The cube and flags once n packets are placed: "starts with all cells missing, places packets". What missing cells hold does not matter.
-pub record Placed (sh : Shape) (s : Source) (n : ℕ) (xs fs : List ℕ) : Type 0 where
+-- where packets i and j are both copies of cell m, they have the same bytes
+unfoldable pub alike : Shape → Source → ℕ → ℕ → ℕ → Bool
+alike sh s m i j =
+    cond (both (eqb (s .place i) m) (eqb (s .place j) m)) (every (sh .w) (λ w. eqb (s .byte i w) (s .byte j w))) true
+
+-- Of the first n packets some are copies of cell m, and all these are equal.
+unfoldable pub agreed : Shape → Source → ℕ → ℕ → Bool
+agreed sh s n m = both (among s n m) (every n (λ i. every n (alike sh s m i)))
+
+-- "a cell whose copies are not all equal"
+unfoldable pub conflicting : Shape → Source → ℕ → ℕ → Bool
+conflicting sh s n m = both (among s n m) (not (agreed sh s n m))
+
+-- how many such cells there are
+unfoldable pub conflictsOf : Shape → Source → ℕ → ℕ
+conflictsOf sh s n = number (conflicting sh s n) (cells sh)
+
+-- The flag of cell m once n packets are placed, 0 known, 1 missing: "A cell whose copies are not all equal is now missing, whichever came first,
+-- and a third copy does not rescue it."
+unfoldable pub flagAt : Shape → Source → ℕ → ℕ → ℕ
+flagAt sh s n m = cond (agreed sh s n m) 0 1
+
+-- A cube and flags once n packets are placed, where the flag of cell m is `flag m`. What cells hold that are not agreed on does not matter.
+pub record Standing (sh : Shape) (s : Source) (n : ℕ) (flag : ℕ → ℕ) (xs fs : List ℕ) : Type 0 where
   pub cube-size : length xs ≡ sh .w * cells sh
   pub flags-size : length fs ≡ cells sh
-  pub flags : (m : ℕ) → m < cells sh → getD fs m 0 ≡ flagAt s n m
-  pub bytes : (i : ℕ) → i < n → (w : ℕ) → w < sh .w → layer sh xs w (s .place i) ≡ s .byte i w
+  pub flags : (m : ℕ) → m < cells sh → getD fs m 0 ≡ flag m
+  pub bytes : (i : ℕ) → i < n → agreed sh s n (s .place i) ≡ true → (w : ℕ) → w < sh .w → layer sh xs w (s .place i) ≡ s .byte i w
+
+-- "starts with all cells missing, places packets"
+abbrev pub Placed : Shape → Source → ℕ → List ℕ → List ℕ → Type 0
+Placed sh s n = Standing sh s n (flagAt sh s n)

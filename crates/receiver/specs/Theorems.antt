@@ -1,14 +1,19 @@
--- What document 01 says of the receiver, as theorems about the definitions; proofs/Determined.antt and proofs/NoPackets.antt have the proofs. r is a
--- byte whose polynomial is primitive.
+-- What document 01 and request P3 say of the receiver, as theorems about the definitions; proofs/Determined.antt, proofs/NoPackets.antt and
+-- proofs/Copies.antt have the proofs. r is a byte whose polynomial is primitive.
 use mathlib.Core.Path.{_≡_}
+use mathlib.Core.Bool.{true}
 use mathlib.Core.List.{List}
-use Prim.Native.Nat.{ℕ}
+use mathlib.Core.Logic.{_↔_}
+use Prim.Native.Nat.{ℕ, _≤_, _<_}
 use Rattle.answer.specs.Values.{Value, gives, passes}
 use Rattle.field.specs.Field.{Primitive}
+use Rattle.shape.specs.declared.Shape.{Shape}
 use Rattle.shape.specs.Shapes.{cells}
 use Rattle.pack.specs.declared.Header.{Header}
 use Rattle.pack.specs.declared.Section.{Section}
+use Rattle.pack.specs.Packets.{Source}
 use Rattle.receiver.specs.declared.Counts.{Counts}
+use Rattle.receiver.specs.Placing.{among, agreed, conflicting}
 use Rattle.receiver.specs.Gathering.{Reception, left}
 use Rattle.receiver.specs.Receive.{Memory, receiveChecked, ReceiveOutcome}
 
@@ -25,3 +30,16 @@ NoPackets =
     (r : ℕ) (p : List ℕ) (m m′ : Memory) (v : Value Reception) (k : Counts) (h : Header) (s : Section) →
     receiveChecked p m ≡ passes (h, s) → s .count ≡ 0 → ReceiveOutcome r p m m′ v k →
     v ≡ gives (left (cells (h .shape)))
+
+-- Request P3: what `agreed` decides. The cell came, and any two of its copies have the same bytes, in whatever order they came.
+pub record AllEqual (sh : Shape) (s : Source) (n m : ℕ) : Type 0 where
+  pub came : among s n m ≡ true
+  pub equal : (i j : ℕ) → i < n → j < n → s .place i ≡ m → s .place j ≡ m → (w : ℕ) → w < sh .w → s .byte i w ≡ s .byte j w
+
+unfoldable pub AgreedExactly : Type 0
+AgreedExactly = (sh : Shape) (s : Source) (n m : ℕ) → (agreed sh s n m ≡ true) ↔ AllEqual sh s n m
+
+-- "a third copy does not rescue it": where two of the first n packets differ, they do among any more
+unfoldable pub NotRescued : Type 0
+NotRescued =
+    (sh : Shape) (s : Source) (n k m : ℕ) → n ≤ k → conflicting sh s n m ≡ true → conflicting sh s k m ≡ true

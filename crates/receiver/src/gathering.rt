@@ -2,7 +2,6 @@
 use crate::Counts;
 use crate::Ending;
 use crate::placing;
-use crate::placing::Placing;
 use answer::Fault;
 use answer::PacketFault;
 use answer::Refusal;
@@ -45,25 +44,15 @@ pub(crate) fn gather(
     if i < n {
         return ended(Refusal::Packet(PacketFault::CellIndex, i as u64));
     }
-    match placing::place(air, cube, flags, h, s) {
-        Placing::Differs(i) => ended(Refusal::Packet(PacketFault::Conflict, i as u64)),
-        Placing::Repeats(repeats) => finish(
-            cube,
-            flags,
-            h.shape,
-            Counts {
-                packets: n,
-                repeats: repeats,
-            },
-        ),
-    }
+    let counts = placing::place(air, cube, flags, h, s);
+    finish(cube, flags, h.shape, counts)
 }
 
 // Fills, and tells whether the cube is whole.
 fn finish(cube: &mut [u8], flags: &mut [u8], sh: Shape, counts: Counts) -> Gathering
     requires { ⌜ Valid sh ⌝ }
     ensures { λ r. ⌜ ((p : List ℕ) (checks : Checked (Header × Section)) (xs fs : List ℕ) (h : Header) (s : Section) → checks ≡ passes (h, s)
-        → Taken p h s (now (cube .entry)) (now (flags .entry)) → sh ≡ h .shape → counts ≡ countsOf (source p h s)
+        → Taken p h s (now (cube .entry)) (now (flags .entry)) → sh ≡ h .shape → counts ≡ countsOf (h .shape) (source p h s)
         → GatherOutcome reduction p checks xs fs (now (cube .exit)) (now (flags .exit)) (gatheringValue r) (gatheringCounts r)) ⌝ }
 {
     let filled = fill::fill(cube, flags, sh);
@@ -85,6 +74,7 @@ fn ended(f: Refusal) -> Gathering
         Counts {
             packets: 0,
             repeats: 0,
+            conflicts: 0,
         },
     )
 }

@@ -25,10 +25,12 @@ pub enum Ending {
     Refused(Refusal),
 }
 
-// The packets of a pack, and its repeats: the packets whose cell had come before. Both are 0 with a refusal.
+// The packets of a pack; its repeats, the packets whose cell had come before; its conflicts, the cells whose copies are not all equal. All are
+// 0 with a refusal.
 pub struct Counts {
     pub packets: usize,
     pub repeats: usize,
+    pub conflicts: usize,
 }
 
 // The answer: how a pack ended, with its counts.
@@ -82,6 +84,7 @@ fn refuse(f: Refusal) -> Received
         counts: Counts {
             packets: 0,
             repeats: 0,
+            conflicts: 0,
         },
     }
 }

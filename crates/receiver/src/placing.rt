@@ -1,62 +1,65 @@
-// Placing packets: every cell starts missing, a packet makes its cell known, a later copy must agree.
+// Placing packets: every cell starts missing, its first packet makes it known, and a copy with other bytes makes it missing for good.
+use crate::Counts;
 use pack::Header;
 use pack::PacketRead;
 use pack::Section;
 ghost use mathlib.Core.Path.{_≡_};
+ghost use mathlib.Core.Bool.{true, false};
 ghost use Prim.Native.Nat.{ℕ, _*_, _<_};
-ghost use lib.ListN.{length, replicate};
+ghost use lib.ListN.{length};
+ghost use Rattle.span.specs.Span.{Copied, BothInside};
 ghost use Rattle.shape.specs.Shapes.{Valid, cells};
+ghost use Rattle.shape.specs.Inner.Marks.{isMarked, Remarked};
+ghost use Rattle.stopping.specs.Stopping.{number};
 ghost use Rattle.pack.specs.Packets.{source, Named};
-ghost use Rattle.receiver.specs.declared.placing.Placing.the-variants.{Differs};
-ghost use Rattle.receiver.specs.Placing.{Placed};
-ghost use Rattle.receiver.specs.Inner.Placing.{First, Placeable, AllNew, Compared, Placement};
+ghost use Rattle.receiver.specs.Placing.{repeatsOf, Placed};
+ghost use Rattle.receiver.specs.Gathering.{countsOf};
+ghost use Rattle.receiver.specs.Inner.Placing.{Placeable, Marked, Tried, Run, Stops};
 
-// The repeats, or the index of the first packet that differs from an earlier copy.
-pub(crate) enum Placing {
-    Repeats(usize),
-    Differs(usize),
-}
-
-// Places all packets. A packet that differs leaves the cube all 00h and the flags all 1.
-pub(crate) fn place(air: &[u8], cube: &mut [u8], flags: &mut [u8], h: Header, s: Section) -> Placing
+// Places all packets, and counts them.
+pub(crate) fn place(air: &[u8], cube: &mut [u8], flags: &mut [u8], h: Header, s: Section) -> Counts
     requires { ⌜ Valid (h .shape) × ((i : ℕ) → i < s .count → Named (now air) h s i)
         × (length (now cube) ≡ h .shape .w * cells (h .shape)) × (length (now flags) ≡ cells (h .shape)) ⌝ }
-    ensures { λ r. ⌜ Placement (h .shape) (source (now (air .entry)) h s) (s .count) (now (cube .exit)) (now (flags .exit)) r × ((i : ℕ) → r ≡ Differs i
-        → (now (cube .exit) ≡ replicate (length (now (cube .entry))) 0) × (now (flags .exit) ≡ replicate (length (now (flags .entry))) 1)) ⌝ }
+    ensures { λ r. ⌜ Placed (h .shape) (source (now (air .entry)) h s) (s .count) (now (cube .exit)) (now (flags .exit))
+        × (r ≡ countsOf (h .shape) (source (now (air .entry)) h s)) ⌝ }
 {
-    let bytes = cube.len();
     let cells = flags.len();
     span::set(flags, 0, cells, 1);
-    let placed = place_packets(air, cube, flags, h, s);
-    let Placing::Differs(_) = placed else {
-        return placed;
-    };
-    span::set(cube, 0, bytes, 0);
-    span::set(flags, 0, cells, 1);
-    placed
+    let repeats = place_packets(air, cube, flags, h, s);
+    if repeats == 0 {
+        return Counts {
+            packets: s.count,
+            repeats: 0,
+            conflicts: 0,
+        };
+    }
+    Counts {
+        packets: s.count,
+        repeats: repeats,
+        conflicts: settle(flags),
+    }
 }
 
-fn place_packets(air: &[u8], cube: &mut [u8], flags: &mut [u8], h: Header, s: Section) -> Placing
-    requires { ⌜ Valid (h .shape) × ((i : ℕ) → i < s .count → Named (now air) h s i)
-        × (length (now cube) ≡ h .shape .w * cells (h .shape)) × (now flags ≡ replicate (cells (h .shape)) 1) ⌝ }
-    ensures { λ r. ⌜ Placement (h .shape) (source (now (air .entry)) h s) (s .count) (now (cube .exit)) (now (flags .exit)) r
-        × (length (now (cube .exit)) ≡ length (now (cube .entry))) × (length (now (flags .exit)) ≡ length (now (flags .entry))) ⌝ }
+// Places one packet after another; the answer is the repeats. While packets are placed a flag is 1 where none came, 0 where all that came are
+// equal, and 3 where two differ. First packets and repeats mostly come in long runs, so each have a loop of their own.
+fn place_packets(air: &[u8], cube: &mut [u8], flags: &mut [u8], h: Header, s: Section) -> usize
+    requires { ⌜ Placeable (now air) h s 0 (now cube) (now flags) ⌝ }
+    ensures { λ r. ⌜ Marked (h .shape) (source (now (air .entry)) h s) (s .count) (now (cube .exit)) (now (flags .exit))
+        × (r ≡ repeatsOf (source (now (air .entry)) h s) (s .count)) ⌝ }
 {
     let n = s.count;
     let mut repeats = 0;
     let mut i = place_new(air, cube, flags, h, s, 0);
     while i < n {
-        if !agrees(air, cube, h, s, i) {
-            return Placing::Differs(i);
-        }
-        repeats += 1;
-        i = place_new(air, cube, flags, h, s, i + 1);
+        let j = place_repeats(air, cube, flags, h, s, i);
+        repeats += j - i;
+        i = place_new(air, cube, flags, h, s, j);
     }
-    Placing::Repeats(repeats)
+    repeats
 }
 
-// Places packets from one on, up to the first whose cell had come before: its index, or the count where there is none. Most packets are new,
-// and of a single byte the copy would cost more than all else, so that these have a loop of their own.
+// Places packets from one on, up to the first repeat: its index, or the count where there is none. The loop is told whether cells are single
+// bytes, so that the compiler makes two of it: of a single byte the copy of a span would cost more than all else.
 fn place_new(
     air: &[u8],
     cube: &mut [u8],
@@ -66,17 +69,83 @@ fn place_new(
     from: usize,
 ) -> usize
     requires { ⌜ Placeable (now air) h s from (now cube) (now flags) ⌝ }
-    ensures { λ r. ⌜ AllNew (h .shape) (source (now (air .entry)) h s) (s .count) from r (now (cube .exit)) (now (flags .exit)) ⌝ }
+    ensures { λ r. ⌜ Run (h .shape) (source (now (air .entry)) h s) (s .count) from r (now (cube .exit)) (now (flags .exit)) 0
+        × Stops (source (now (air .entry)) h s) (s .count) r true ⌝ }
 {
     let sh = h.shape;
     if sh.w == 1 {
-        place_bytes(air, cube, flags, h, s, from)
+        place_firsts(air, cube, flags, h, s, from, true)
     } else {
-        place_cells(air, cube, flags, h, s, from)
+        place_firsts(air, cube, flags, h, s, from, false)
     }
 }
 
-fn place_cells(
+fn place_firsts(
+    air: &[u8],
+    cube: &mut [u8],
+    flags: &mut [u8],
+    h: Header,
+    s: Section,
+    from: usize,
+    single: bool,
+) -> usize
+    requires { ⌜ Placeable (now air) h s from (now cube) (now flags) ⌝ }
+    requires { ⌜ (single ≡ true → h .shape .w ≡ 1) ⌝ }
+    ensures { λ r. ⌜ Run (h .shape) (source (now (air .entry)) h s) (s .count) from r (now (cube .exit)) (now (flags .exit)) 0
+        × Stops (source (now (air .entry)) h s) (s .count) r true ⌝ }
+{
+    let n = s.count;
+    let mut i = from;
+    while i < n {
+        if !place_first(air, cube, flags, h, s, i, single) {
+            return i;
+        }
+        i += 1;
+    }
+    i
+}
+
+// Places the first packet of a cell. False, and nothing changed, where a copy came before.
+fn place_first(
+    air: &[u8],
+    cube: &mut [u8],
+    flags: &mut [u8],
+    h: Header,
+    s: Section,
+    i: usize,
+    single: bool,
+) -> bool
+    requires { ⌜ Valid (h .shape) × Named (now air) h s i × Marked (h .shape) (source (now air) h s) i (now cube) (now flags) ⌝ }
+    requires { ⌜ (single ≡ true → h .shape .w ≡ 1) ⌝ }
+    ensures { λ r. ⌜ Tried (h .shape) (source (now (air .entry)) h s) i (now (cube .entry)) (now (flags .entry)) (now (cube .exit)) (now (flags .exit)) 0 true r ⌝ }
+{
+    let sh = h.shape;
+    let read = pack::packet(air, h, s, i);
+    let PacketRead::Names(m, from) = read else {
+        return false;
+    };
+    if flags[m] != 1 {
+        return false;
+    }
+    put(air, cube, from, m, sh.w, single);
+    flags[m] = 0;
+    true
+}
+
+// Copies a packet's bytes to cell m. A single byte is copied by itself: the call for a span would cost more than all else.
+fn put(air: &[u8], cube: &mut [u8], from: usize, m: usize, w: usize, single: bool)
+    requires { ⌜ BothInside (now air) from (now cube) (m * w) w × (single ≡ true → w ≡ 1) ⌝ }
+    ensures { λ r. ⌜ Copied (now (air .entry)) from (now (cube .entry)) (m * w) w (now (cube .exit)) ⌝ }
+{
+    if single {
+        cube[m] = air[from];
+    } else {
+        span::copy(air, cube, from, m * w, w);
+    }
+}
+
+// Goes through repeats from one on, up to the first packet of a cell: its index, or the count where there is none.
+fn place_repeats(
     air: &[u8],
     cube: &mut [u8],
     flags: &mut [u8],
@@ -85,12 +154,13 @@ fn place_cells(
     from: usize,
 ) -> usize
     requires { ⌜ Placeable (now air) h s from (now cube) (now flags) ⌝ }
-    ensures { λ r. ⌜ AllNew (h .shape) (source (now (air .entry)) h s) (s .count) from r (now (cube .exit)) (now (flags .exit)) ⌝ }
+    ensures { λ r. ⌜ Run (h .shape) (source (now (air .entry)) h s) (s .count) from r (now (cube .exit)) (now (flags .exit)) 1
+        × Stops (source (now (air .entry)) h s) (s .count) r false ⌝ }
 {
     let n = s.count;
     let mut i = from;
     while i < n {
-        if !place_cell(air, cube, flags, h, s, i) {
+        if !place_repeat(air, cube, flags, h, s, i) {
             return i;
         }
         i += 1;
@@ -98,90 +168,49 @@ fn place_cells(
     i
 }
 
-fn place_bytes(
+// Compares a repeat with the bytes of its cell, and marks the cell where they differ, which nothing takes back. False, and nothing changed, where
+// no copy came before.
+fn place_repeat(
     air: &[u8],
     cube: &mut [u8],
     flags: &mut [u8],
     h: Header,
     s: Section,
-    from: usize,
-) -> usize
-    requires { ⌜ Placeable (now air) h s from (now cube) (now flags) ⌝ }
-    requires { ⌜ h .shape .w ≡ 1 ⌝ }
-    ensures { λ r. ⌜ AllNew (h .shape) (source (now (air .entry)) h s) (s .count) from r (now (cube .exit)) (now (flags .exit)) ⌝ }
+    i: usize,
+) -> bool
+    requires { ⌜ Valid (h .shape) × Named (now air) h s i × Marked (h .shape) (source (now air) h s) i (now cube) (now flags) ⌝ }
+    ensures { λ r. ⌜ Tried (h .shape) (source (now (air .entry)) h s) i (now (cube .entry)) (now (flags .entry)) (now (cube .exit)) (now (flags .exit)) 1 false r ⌝ }
 {
-    let n = s.count;
-    let mut i = from;
-    while i < n {
-        if !place_byte(air, cube, flags, h, s, i) {
-            return i;
+    let sh = h.shape;
+    let w = sh.w;
+    let read = pack::packet(air, h, s, i);
+    let PacketRead::Names(m, from) = read else {
+        return false;
+    };
+    if flags[m] == 1 {
+        return false;
+    }
+    if span::same(air, cube, from, m * w, w) {
+        return true;
+    }
+    flags[m] = 3;
+    true
+}
+
+// Makes the marked cells missing; the answer is their number.
+fn settle(flags: &mut [u8]) -> usize
+    ensures { λ r. ⌜ Remarked 1 (now (flags .entry)) (now (flags .exit)) ⌝ }
+    ensures { λ r. ⌜ r ≡ number (isMarked (now (flags .entry))) (length (now (flags .entry))) ⌝ }
+{
+    let n = flags.len();
+    let mut conflicts = 0;
+    let mut m = 0;
+    while m < n {
+        if flags[m] == 3 {
+            flags[m] = 1;
+            conflicts += 1;
         }
-        i += 1;
+        m += 1;
     }
-    i
-}
-
-// Places a packet whose cell is still missing. False, and nothing changed, where a copy came before.
-fn place_cell(
-    air: &[u8],
-    cube: &mut [u8],
-    flags: &mut [u8],
-    h: Header,
-    s: Section,
-    i: usize,
-) -> bool
-    requires { ⌜ Valid (h .shape) × Named (now air) h s i × Placed (h .shape) (source (now air) h s) i (now cube) (now flags) ⌝ }
-    ensures { λ r. ⌜ First (h .shape) (source (now (air .entry)) h s) i (now (cube .entry)) (now (flags .entry)) (now (cube .exit)) (now (flags .exit)) r ⌝ }
-{
-    let sh = h.shape;
-    let w = sh.w;
-    let read = pack::packet(air, h, s, i);
-    let PacketRead::Names(m, from) = read else {
-        return false;
-    };
-    if flags[m] != 1 {
-        return false;
-    }
-    span::copy(air, cube, from, m * w, w);
-    flags[m] = 0;
-    true
-}
-
-// The same where a cell is a single byte.
-fn place_byte(
-    air: &[u8],
-    cube: &mut [u8],
-    flags: &mut [u8],
-    h: Header,
-    s: Section,
-    i: usize,
-) -> bool
-    requires { ⌜ Valid (h .shape) × Named (now air) h s i × Placed (h .shape) (source (now air) h s) i (now cube) (now flags) ⌝ }
-    requires { ⌜ h .shape .w ≡ 1 ⌝ }
-    ensures { λ r. ⌜ First (h .shape) (source (now (air .entry)) h s) i (now (cube .entry)) (now (flags .entry)) (now (cube .exit)) (now (flags .exit)) r ⌝ }
-{
-    let read = pack::packet(air, h, s, i);
-    let PacketRead::Names(m, from) = read else {
-        return false;
-    };
-    if flags[m] != 1 {
-        return false;
-    }
-    cube[m] = air[from];
-    flags[m] = 0;
-    true
-}
-
-// Whether a packet has the bytes that stand in its cell. It reads the packet again, which only copies pay for.
-fn agrees(air: &[u8], cube: &[u8], h: Header, s: Section, i: usize) -> bool
-    requires { ⌜ Valid (h .shape) × Named (now air) h s i × (length (now cube) ≡ h .shape .w * cells (h .shape)) ⌝ }
-    ensures { λ r. ⌜ Compared (h .shape) (source (now (air .entry)) h s) i (now (cube .entry)) r ⌝ }
-{
-    let sh = h.shape;
-    let w = sh.w;
-    let read = pack::packet(air, h, s, i);
-    let PacketRead::Names(m, from) = read else {
-        return false;
-    };
-    span::same(air, cube, from, m * w, w)
+    conflicts
 }

@@ -1,7 +1,9 @@
 -- `answer::number` meets its contract, arm by arm. Assumes nothing.
+use mathlib.Core.Path.{sym}
 use borrow.Author.Needs.{needs}
-use Rattle.answer.specs.Refusals.{faultNumber, packetFaultNumber}
+use Rattle.answer.specs.Refusals.{faultNumber}
 use Rattle.answer.specs.Values.{refusal, numberOf}
+use Rattle.answer.proofs.Values.{packet-fault-number}
 use Rattle.answer.proofs.number.Statement.{statement}
 use Rattle.answer.proofs.number.Tie as tie
 
@@ -50,17 +52,11 @@ enum-told-13 c = search needs
 enum-told-14 : tie.Need-enum-told-14
 enum-told-14 c = search needs
 
-enum-known-f-2 : tie.Need-enum-known-f-2
-enum-known-f-2 c = search needs
-
 enum-told-15 : tie.Need-enum-told-15
 enum-told-15 c = search needs
 
 enum-told-16 : tie.Need-enum-told-16
 enum-told-16 c = search needs
-
-enum-told-17 : tie.Need-enum-told-17
-enum-told-17 c = search needs
 
 returns : tie.Need-returns
 unfolding numberOf refusal faultNumber
@@ -119,16 +115,12 @@ unfolding numberOf refusal faultNumber
 returns-14 c = rw (c .before .before .before .f .given .1, c .enum-told14 .given .1)
 
 returns-15 : tie.Need-returns-15
-unfolding numberOf refusal packetFaultNumber
-returns-15 c = rw (c .before .before .before .f2 .given .1, c .enum-told15 .given .1)
+unfolding numberOf refusal
+returns-15 c = rw (c .enum-told15 .given .1) (sym (packet-fault-number _))
 
 returns-16 : tie.Need-returns-16
-unfolding numberOf refusal packetFaultNumber
-returns-16 c = rw (c .before .before .before .f2 .given .1, c .enum-told16 .given .1)
-
-returns-17 : tie.Need-returns-17
 unfolding numberOf refusal
-returns-17 c = rw (c .enum-told17 .given .1)
+returns-16 c = rw (c .enum-told16 .given .1)
 
 pub number-spec : {M : Type 1} → statement M
 number-spec =
@@ -149,10 +141,8 @@ number-spec =
     enum-told-12
     enum-told-13
     enum-told-14
-    enum-known-f-2
     enum-told-15
     enum-told-16
-    enum-told-17
     returns
     returns-2
     returns-3
@@ -168,5 +158,4 @@ number-spec =
     returns-13
     returns-14
     returns-15
-    returns-16
-    returns-17)
+    returns-16)

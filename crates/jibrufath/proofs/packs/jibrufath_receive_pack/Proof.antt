@@ -23,6 +23,9 @@ element-write-counts-2 c = search needs
 element-write-counts-3 : tie.Need-element-write-counts-3
 element-write-counts-3 c = search needs
 
+element-write-counts-4 : tie.Need-element-write-counts-4
+element-write-counts-4 c = search needs
+
 ending-word-requires : tie.Need-ending-word-requires
 ending-word-requires c κs =
     let received = c .before .before .before .before .before .before .before .before .before in
@@ -59,6 +62,7 @@ jibrufath-receive-pack-spec =
     element-write-counts
     element-write-counts-2
     element-write-counts-3
+    element-write-counts-4
     ending-word-requires
     same-length
     same-length-2

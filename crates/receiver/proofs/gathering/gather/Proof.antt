@@ -6,7 +6,7 @@ use Prim.Native.Nat.{ℕ, _<_}
 use lib.ListN.{getD}
 use Rattle.pack.specs.Packets.{Named}
 use Rattle.pack.proofs.Naming.{air-named}
-use Rattle.receiver.proofs.Outcomes.{gathered-index, gathered-conflict, taken-all}
+use Rattle.receiver.proofs.Outcomes.{gathered-index}
 use Rattle.receiver.proofs.gathering.gather.Statement.{statement}
 use Rattle.receiver.proofs.gathering.gather.Tie as tie
 
@@ -40,17 +40,8 @@ place-requires c κs =
     let fits = start e .pre in
     (fits .valid, named e, fits .cube-size, fits .flags-size)
 
-enum-known-i : tie.Need-enum-known-i
-enum-known-i c = search needs
-
-ended-requires-2 : tie.Need-ended-requires-2
-ended-requires-2 c κs = search needs
-
-enum-known-repeats : tie.Need-enum-known-repeats
-enum-known-repeats c = search needs
-
 finish-requires : tie.Need-finish-requires
-finish-requires c κs = start (c .before .before .before .before .before .before .before .before .before .before .before .before) .pre .valid
+finish-requires c κs = start (c .before .before .before .before .before .before .before .before .before) .pre .valid
 
 same-length : tie.Need-same-length
 same-length c = search needs
@@ -60,26 +51,11 @@ same-length-2 c = search needs
 
 returns-2 : tie.Need-returns-2
 returns-2 c =
-    let p = c .before .before .before .before .before .before .before .before in
-    let e = p .before .before .before in
-    let told = c .before .before .i .given .1 in
-    let cleared = p .place .ensures .1 _ told in
-    λ checks accepted.
-    gathered-conflict _ checks _ _ _ _ accepted (λ i l. named e i l .range) _ _ _ _ _ (p .place .ensures .0) told (cleared .0) (cleared .1) (c .ended2 .ensures)
-
-same-length-3 : tie.Need-same-length-3
-same-length-3 c = search needs
-
-same-length-4 : tie.Need-same-length-4
-same-length-4 c = search needs
-
-returns-3 : tie.Need-returns-3
-returns-3 c =
     let f = c .before .before .before .before in
-    let k = f .before .before .before .before in
-    let p = k .before .before .before .before .before .before in
-    let all = taken-all _ _ _ (λ i l. named (p .before .before .before) i l .range) _ _ _ _ (p .place .ensures .0) (k .repeats .given .1) in
-    λ checks accepted. f .finish .ensures _ checks _ _ _ _ accepted (all .0) refl (all .1)
+    let p = f .before .before .before .before .before .before .before in
+    let e = p .before .before .before in
+    λ checks accepted.
+    f .finish .ensures _ checks _ _ _ _ accepted (record { indexes = λ i l. named e i l .range; placed = p .place .ensures .0 }) refl (p .place .ensures .1)
 
 pub gather-spec : {M : Type 1} → statement M
 gather-spec =
@@ -89,13 +65,7 @@ gather-spec =
     ended-requires
     returns
     place-requires
-    enum-known-i
-    ended-requires-2
-    enum-known-repeats
     finish-requires
     same-length
     same-length-2
-    returns-2
-    same-length-3
-    same-length-4
-    returns-3)
+    returns-2)
