@@ -70,7 +70,7 @@ void note(enum call call, uint64_t answer, uint32_t numbers)
     unsigned number = (unsigned)(answer & 0xFF);
     require(number <= MOST_NUMBER && (numbers >> number & 1), "a number of the call");
     uint64_t count = jibrufath_count(answer);
-    int counted = number == JIBRUFATH_OK || number == JIBRUFATH_CELL_INDEX || number == JIBRUFATH_CONFLICT || number == JIBRUFATH_LINE;
+    int counted = number == JIBRUFATH_OK || number == JIBRUFATH_CELL_INDEX || number == JIBRUFATH_LINE;
     require(counted || count == 0, "no count with this refusal");
     int size = 0;
     while (size < 7 && count >> (2 * size) != 0)

@@ -57,15 +57,36 @@ static size_t cell_of(const struct shape *shape, const uint8_t *packet)
     return packet[0] + shape->length[0] * (packet[1] + shape->length[1] * packet[2]);
 }
 
-/* The flags and the cube of an air pack whose packets are placed and not yet filled. */
-static void place(const struct shape *shape, uint8_t *placed_flags, uint8_t *placed_cube)
+/* An air pack whose packets are placed and not yet filled, and what its receiver counts. */
+struct placing {
+    uint8_t flags[MOST_BYTES], cube[MOST_BYTES];
+    uint64_t counts[JIBRUFATH_COUNTS];
+};
+
+/* Places the first packet of each cell in `pack`. Missing is then a cell that no packet named, or that two did with different bytes. */
+static void place(const struct shape *shape, struct placing *placing)
 {
-    memset(placed_flags, 1, cells_of(shape));
-    memset(placed_cube, 0, cells_of(shape) * shape->w);
-    for (size_t at = HEAD; at < pack.len; at += 3 + shape->w) {
+    static uint8_t came[MOST_BYTES], differs[MOST_BYTES];
+    size_t cells = cells_of(shape), w = shape->w;
+    memset(came, 0, cells);
+    memset(differs, 0, cells);
+    memset(placing->cube, 0, cells * w);
+    memset(placing->counts, 0, sizeof placing->counts);
+    for (size_t at = HEAD; at < pack.len; at += 3 + w) {
         size_t cell = cell_of(shape, pack.bytes + at);
-        placed_flags[cell] = 0;
-        memcpy(placed_cube + cell * shape->w, pack.bytes + at + 3, shape->w);
+        if (came[cell])
+            differs[cell] |= memcmp(placing->cube + cell * w, pack.bytes + at + 3, w) != 0;
+        else
+            memcpy(placing->cube + cell * w, pack.bytes + at + 3, w);
+        placing->counts[JIBRUFATH_COUNT_PACKETS]++;
+        placing->counts[JIBRUFATH_COUNT_REPEATS] += came[cell];
+        came[cell] = 1;
+    }
+    for (size_t cell = 0; cell < cells; cell++) {
+        placing->flags[cell] = !came[cell] || differs[cell];
+        placing->counts[JIBRUFATH_COUNT_CONFLICTS] += differs[cell];
+        if (placing->flags[cell])
+            memset(placing->cube + cell * w, 0, w);
     }
 }
 
@@ -85,31 +106,29 @@ static void check_opened(const struct shape *shape, size_t len)
 
 static void check_received(const struct shape *shape, uint64_t answer, const uint64_t *counts)
 {
-    static uint8_t placed_flags[MOST_BYTES], placed_cube[MOST_BYTES];
+    static struct placing placing;
     unsigned number = (unsigned)jibrufath_number(answer);
     int opened = answer == JIBRUFATH_OK;
     require(opened || kept(&file), "the file buffer");
     require(kept(&pack), "the pack");
-    if (number == JIBRUFATH_CONFLICT) {
-        require(all(&cube, 0) && all(&flags, 1), "a cube of nothing");
-    } else if (number == JIBRUFATH_OK || number == JIBRUFATH_CONTRADICTION || number == JIBRUFATH_FILE_LENGTH) {
-        place(shape, placed_flags, placed_cube);
+    if (number == JIBRUFATH_OK || number == JIBRUFATH_CONTRADICTION || number == JIBRUFATH_FILE_LENGTH) {
+        place(shape, &placing);
         if (number != JIBRUFATH_CONTRADICTION) {
-            check_filled(shape, placed_flags, placed_cube, jibrufath_count(answer));
+            check_filled(shape, placing.flags, placing.cube, jibrufath_count(answer));
         } else {
-            require(memcmp(flags.bytes, placed_flags, flags.len) == 0, "the flags as placed");
-            require(memcmp(cube.bytes, placed_cube, cube.len) == 0, "the cube as placed");
+            require(memcmp(flags.bytes, placing.flags, flags.len) == 0, "the flags as placed");
+            require(memcmp(cube.bytes, placing.cube, cube.len) == 0, "the cube as placed");
         }
     } else {
         require(kept(&cube) && kept(&flags), "the memory that a refusal keeps");
     }
-    if (opened)
+    if (number != JIBRUFATH_OK)
+        memset(placing.counts, 0, sizeof placing.counts);
+    if (opened) {
+        placing.counts[JIBRUFATH_COUNT_FILE_BYTES] = counts[JIBRUFATH_COUNT_FILE_BYTES];
         check_opened(shape, counts[JIBRUFATH_COUNT_FILE_BYTES]);
-    size_t packets = number == JIBRUFATH_OK ? (pack.len - HEAD) / (3 + shape->w) : 0;
-    require(counts[JIBRUFATH_COUNT_PACKETS] == packets, "the count of packets");
-    require(counts[JIBRUFATH_COUNT_REPEATS] <= packets, "the count of repeats");
-    for (int i = JIBRUFATH_COUNT_REPEATS + 1; i < JIBRUFATH_COUNTS; i++)
-        require(counts[i] == 0, "the counts to come");
+    }
+    require(memcmp(counts, placing.counts, sizeof placing.counts) == 0, "the counts");
 }
 
 /* Receives what stands in `pack`. */
@@ -122,7 +141,7 @@ static uint64_t receive(const struct shape *shape, uint8_t choice, enum call cal
     memset(counts, 0xEE, sizeof counts);
     uint64_t answer = jibrufath_receive_pack(
         pack.bytes, pack.len, cube.bytes, cube.len, flags.bytes, flags.len, file.bytes, file.len, counts);
-    note(call, answer, 0x7FDF); /* 0 to 4, 6 to 14 */
+    note(call, answer, 0x6FDF); /* 0 to 4, 6 to 11, 13, 14 */
     check_received(shape, answer, counts);
     return answer;
 }
@@ -165,24 +184,59 @@ void fuzz_write(struct input input, uint8_t choice)
     write_job(&shape, choice, WRITE);
 }
 
-/* Drops and repeats packets of `output` by the input's bytes, and leaves the air pack in `pack`. */
-static void lose(struct input *input, const struct shape *shape, uint8_t choice)
+/* The packets that are heard. */
+static struct {
+    uint8_t bytes[LENT_MOST];
+    size_t packets;
+} heard;
+
+/* Adds the packet of a cell of `output` to those that are heard, and gives its bytes. */
+static uint8_t *hear(const struct shape *shape, size_t cell)
 {
-    static uint8_t air[LENT_MOST];
-    size_t size = 3 + shape->w, cells = cells_of(shape), packets = 0;
+    size_t size = 3 + shape->w;
+    uint8_t *packet = heard.bytes + size * heard.packets++;
+    memcpy(packet, output.bytes + HEAD + size * cell, size);
+    return packet + 3;
+}
+
+/* Adds two copies that differ of some cells of `output`, by the input's bytes. Neither need be right. */
+static void disagree(struct input *input, const struct shape *shape)
+{
+    for (int cells = next_byte(input) % 16; cells > 0; cells--) {
+        size_t cell = (next_byte(input) * 256u + next_byte(input)) % cells_of(shape);
+        uint8_t change = next_byte(input), other = next_byte(input);
+        uint8_t *first = hear(shape, cell), *second = hear(shape, cell);
+        first[change % shape->w] ^= change;
+        second[change % shape->w] ^= change;
+        second[other % shape->w] ^= other | 1;
+    }
+}
+
+/* Adds packets of `output`, without some and with repeats, by the input's bytes. */
+static void lose(struct input *input, const struct shape *shape)
+{
+    size_t cells = cells_of(shape);
     uint8_t share = next_byte(input);
     uint32_t state = next_byte(input);
-    memcpy(air, output.bytes, HEAD);
     for (size_t i = 0; i < cells; i++) {
         state = state * 1664525u + 1013904223u + (input->len > 0 ? next_byte(input) : 0);
-        if ((uint8_t)(state >> 24) < share)
-            continue;
-        size_t cell = share & 1 ? (i * 7 + state % 3) % cells : i;
-        memcpy(air + HEAD + size * packets++, output.bytes + HEAD + size * cell, size);
+        if ((uint8_t)(state >> 24) >= share)
+            hear(shape, share & 1 ? (i * 7 + state % 3) % cells : i);
     }
+}
+
+/* Leaves in `pack` the air pack of what was heard, from one of its packets on and round to it. */
+static void gather(const struct shape *shape, size_t first, uint8_t choice)
+{
+    static uint8_t air[LENT_MOST];
+    size_t size = 3 + shape->w, packets = heard.packets, behind = packets - first;
+    memcpy(air, output.bytes, HEAD);
     for (int i = 0; i < 4; i++)
         air[13 + i] = (uint8_t)(packets >> (8 * i));
+    memcpy(air + HEAD, heard.bytes + size * first, size * behind);
+    memcpy(air + HEAD + size * behind, heard.bytes, size * first);
     lend_copy(&pack, air, HEAD + size * packets, choice);
+    heard.packets = 0;
 }
 
 /* Leaves in `pack` a job with a file of the input's bytes, which may be one byte too long, and answers with the file's length. */
@@ -206,7 +260,7 @@ static size_t next_job(struct input *input, const struct shape *shape, uint8_t c
     return len;
 }
 
-/* The third demand: a file that is written, loses any packets and is received. */
+/* The third demand: a file that is written, loses any packets, has copies that differ of any cells, and is received. */
 void fuzz_return(struct input input, uint8_t choice)
 {
     static uint8_t sent[MOST_BYTES];
@@ -217,9 +271,12 @@ void fuzz_return(struct input input, uint8_t choice)
     require(capacity_of(&shape) >= 4 + len || answer == JIBRUFATH_CAPACITY, "no room");
     if (answer != JIBRUFATH_OK)
         return;
-    lose(&input, &shape, choice);
+    uint8_t first = next_byte(&input);
+    disagree(&input, &shape);
+    lose(&input, &shape);
+    gather(&shape, heard.packets > 0 ? first % heard.packets : 0, choice);
     answer = receive(&shape, 0, RETURN);
-    require(jibrufath_number(answer) == JIBRUFATH_OK, "packets of one code cube are not refused");
+    require(jibrufath_number(answer) == JIBRUFATH_OK, "packets of one code cube, and copies that differ, are not refused");
     require(jibrufath_count(answer) > 0 || memcmp(file.bytes, sent, len) == 0, "the file comes back");
 }
 
@@ -232,7 +289,8 @@ void fuzz_damage(struct input input, uint8_t choice)
     struct input places = input;
     if (write_job(&shape, 0, DAMAGE) != JIBRUFATH_OK)
         return;
-    lose(&input, &shape, choice);
+    lose(&input, &shape);
+    gather(&shape, 0, choice);
     for (; changes > 0; changes--) {
         size_t at = next_byte(&places) * 256u + next_byte(&places);
         pack.bytes[at % pack.len] ^= next_byte(&places);

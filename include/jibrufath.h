@@ -35,8 +35,8 @@
  * Answers
  *   Every call but those of the field answers with 64 bits. The low byte is a number of the table below, JIBRUFATH_OK or a refusal.
  *   What stands above it is a count with JIBRUFATH_OK (cells left, a size, or 1 for a code cube), the packet's index from 0 with
- *   refusals 11 and 12, and the line's number from 1 with refusal 17; it is 0 with all others. jibrufath_number and jibrufath_count
- *   take an answer apart.
+ *   refusal 11, and the line's number from 1 with refusal 17; it is 0 with all others. jibrufath_number and jibrufath_count take an
+ *   answer apart.
  *
  *   A call makes its checks in the order in which its comment names them, and answers with the first that fails. The checks of a
  *   shape are 1, 2, 3, in this order. Refusals 1 to 11, 15 and 17 change no lent byte, and no refusal changes the file buffer. */
@@ -46,8 +46,8 @@
 #include <stdint.h>
 
 /* The version of this interface. The major number grows where a program must be changed or compiled again. */
-#define JIBRUFATH_VERSION_MAJOR 2
-#define JIBRUFATH_VERSION_MINOR 3
+#define JIBRUFATH_VERSION_MAJOR 3
+#define JIBRUFATH_VERSION_MINOR 0
 
 #ifdef __cplusplus
 extern "C" {
@@ -67,7 +67,7 @@ enum jibrufath_answer {
     JIBRUFATH_SECTION_COUNT = 9,      /* the section that must be empty is not */
     JIBRUFATH_CAPACITY = 10,          /* the data string has no room for the file, or not even for its length */
     JIBRUFATH_CELL_INDEX = 11,        /* a packet names a cell outside the cube; the count is the packet's index */
-    JIBRUFATH_CONFLICT = 12,          /* a packet's cell came before with other bytes; the count is the packet's index */
+    /* 12 is not given any more, and the number is not used again. */
     JIBRUFATH_CONTRADICTION = 13,     /* the known cells contradict each other */
     JIBRUFATH_FILE_LENGTH = 14,       /* the data string holds no file: too long, or bytes behind it that are not 00h */
     JIBRUFATH_ERASURE = 15,           /* a flag is 1, and mending takes only whole cubes */
@@ -139,31 +139,35 @@ uint64_t jibrufath_write_pack(
     uint8_t *cube, uint64_t cube_len,
     uint8_t *output, uint64_t output_len);
 
-/* The places in counts. The other 13 are 0, and are kept: 3 to 9 beside the repeats for those of other feeders, 10 to 12 for totals of
- * the axes, 13 to 15 for the counts of a plan. */
+/* The places in counts. The other 12 are 0, and are kept: 3 to 9 beside the repeats for those of other feeders, 10 to 12 for totals of
+ * the axes, 14 and 15 for what may come. */
 enum jibrufath_count_place {
     JIBRUFATH_COUNT_FILE_BYTES = 0,   /* the file's length; 0 where no file came out */
     JIBRUFATH_COUNT_PACKETS = 1,      /* the packets of the pack */
-    JIBRUFATH_COUNT_REPEATS = 2,      /* those of them whose cell had come before */
+    JIBRUFATH_COUNT_REPEATS = 2,      /* those of them whose cell had come before, with the same bytes or with others */
+    JIBRUFATH_COUNT_CONFLICTS = 13,   /* the cells whose copies are not all equal */
     JIBRUFATH_COUNTS = 16
 };
 
 /* Receives an air pack: packets in any order, each any number of times. Places them, fills what the lines force, and opens the file
  * where no cell is left.
  *
+ * A cell is known where its copies are all equal. Copies that differ make their cell missing, whichever came first, and no further
+ * copy makes it known again; like any other missing cell it is filled where the lines force its bytes. Copies that are all equal and
+ * all wrong make a known cell, and 13 may follow.
+ *
  * air and its length; cube; flags; file; counts, which is an array of 16. What cube, flags and file hold before does not matter. OK
  * with count 0: the file came out. OK with another count: so many cells are left, always 27 or more. All 16 counts are written by
  * every call, and all are 0 with a refusal.
  *
  * Checks: 6 count 1 is cut; 7; 6 section 1 is cut; 1, 2, 3; 10 capacity below 4; 6 count 2 is cut; 9 count 2 is not 0; 6 count 3 is
- * cut; 6 the packets are cut; 8; 4; 11 of any packet; then 12, 13, 14.
+ * cut; 6 the packets are cut; 8; 4; 11 of any packet; then 13, 14.
  *
  * What memory holds afterwards:
  *
  *   answer           cube                                   flags                      file
  *   1 to 4, 6 to 11  as before                              as before                  as before
- *   12               all 00h                                all 1                      as before
- *   13               packets in their cells, else 00h       0 where a packet came      as before
+ *   13               cells known from packets, else 00h     0 where known              as before
  *   14               filled, a code cube                    all 0                      as before
  *   OK, cells left   filled, 00h in the cells left          1 in the cells left        as before
  *   OK, a file       filled, a code cube                    all 0                      the file, then as before */

@@ -1,5 +1,5 @@
-/* Writes a small file as packets, loses some of them and receives the rest: once with enough of them, once without. Then two packs that
- * a receiver must not trust.
+/* Writes a small file as packets, loses some of them and receives the rest: once with enough of them, once without. Then every packet
+ * comes twice, as through two transponders, and some copies are damaged. Then two packs that a receiver must not trust.
  * cc -std=c99 -Iinclude examples/c/receive.c target/staticlib/libjibrufath.a -o receive */
 #include "jibrufath.h"
 
@@ -15,7 +15,7 @@ enum {
     PACKET = 3 + W
 };
 
-static uint8_t job[HEAD + ROOM], output[HEAD + CELLS * PACKET], air[sizeof output];
+static uint8_t job[HEAD + ROOM], output[HEAD + CELLS * PACKET], air[HEAD + 2 * CELLS * PACKET];
 static uint8_t cube[W * CELLS], flags[CELLS], file[ROOM];
 
 static void put_count(uint8_t *at, uint64_t count)
@@ -46,6 +46,17 @@ static uint64_t lose_before(uint64_t first)
     return HEAD + packets * PACKET;
 }
 
+/* Leaves in air every packet twice, with a byte of so many second copies changed, and answers with the bytes of that pack. */
+static uint64_t send_twice(uint64_t damaged)
+{
+    memcpy(air, output, sizeof output);
+    memcpy(air + sizeof output, output + HEAD, CELLS * PACKET);
+    put_count(air + 13, 2 * CELLS);
+    for (uint64_t cell = 0; cell < damaged; cell++)
+        air[sizeof output + cell * PACKET + 3] ^= 0x10;
+    return sizeof air;
+}
+
 /* Receives what stands in air, if the memory above is enough for it, and says what came of it. */
 static void receive(uint64_t air_len)
 {
@@ -59,14 +70,15 @@ static void receive(uint64_t air_len)
     }
     if (answer == JIBRUFATH_OK)
         answer = jibrufath_receive_pack(air, air_len, cube, cube_len, flags, flags_len, file, file_len, counts);
-    if (jibrufath_number(answer) == JIBRUFATH_CELL_INDEX || jibrufath_number(answer) == JIBRUFATH_CONFLICT)
+    if (jibrufath_number(answer) == JIBRUFATH_CELL_INDEX)
         printf("refused %d, packet %d\n", (int)jibrufath_number(answer), (int)jibrufath_count(answer));
     else if (jibrufath_number(answer) != JIBRUFATH_OK)
         printf("refused %d\n", (int)jibrufath_number(answer));
     else if (jibrufath_count(answer) > 0)
-        printf("%d cells left\n", (int)jibrufath_count(answer));
+        printf("%d conflicts, %d cells left\n", (int)counts[JIBRUFATH_COUNT_CONFLICTS], (int)jibrufath_count(answer));
     else
-        printf("\"%.*s\"\n", (int)counts[JIBRUFATH_COUNT_FILE_BYTES], (const char *)file);
+        printf("%d conflicts, \"%.*s\"\n", (int)counts[JIBRUFATH_COUNT_CONFLICTS], (int)counts[JIBRUFATH_COUNT_FILE_BYTES],
+            (const char *)file);
 }
 
 int main(void)
@@ -81,9 +93,11 @@ int main(void)
         printf("%d packets lost: ", planes * L1 * L2);
         receive(lose_before((uint64_t)planes * L1 * L2));
     }
+    printf("every packet twice, %d damaged: ", L1 * L2);
+    receive(send_twice(L1 * L2));
     printf("a packet for a cell outside the cube: ");
     air[HEAD] = L1;
-    receive(HEAD + 2 * L1 * L2 * PACKET);
+    receive(sizeof air);
     printf("a pack of another shape: ");
     memset(air + 4, 255, 3);
     receive(HEAD);

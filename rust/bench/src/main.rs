@@ -72,7 +72,11 @@ cube that encode has just written, to a buffer that nothing else touches. Buffer
         match name {
             "encoding" => rows.extend(encoding::table()),
             "repair" => rows.extend(repair::table()?),
-            "receiving" => rows.extend(receiving::table()?),
+            "receiving" => {
+                let (received, bar) = receiving::table()?;
+                rows.extend(received);
+                bars.push(bar);
+            }
             "growth" => {
                 sizes = growth::by_size()?;
                 println!();

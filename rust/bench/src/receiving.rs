@@ -5,12 +5,15 @@ use jibrufath::{AirPack, Error, Packet, Received, Refusal, Shape, packets, recei
 use reference::random::Random;
 
 use crate::REFERENCE_SET;
+use crate::bars::Bar;
 use crate::measure::{ROUNDS, ROWS, Row, beside_memcpy};
 
-/// A list of packets to receive, by the numbers of their cells, and whether the file comes back.
+/// A list of packets to receive, by the numbers of their cells, those of them that are damaged, by their places in the list, and
+/// whether the file comes back.
 pub struct Kind {
     what: String,
     cells: Vec<usize>,
+    damaged: Vec<usize>,
     whole: bool,
 }
 
@@ -24,7 +27,12 @@ pub struct Receiving {
     file: Vec<u8>,
 }
 
-pub fn table() -> Result<Vec<Row>, Error> {
+/// Every packet once, and twice: the rows that a bar compares.
+const ONCE: &str = "receive: all packets";
+const TWICE: &str = "receive: all packets, twice";
+
+/// Prints the table, and gives its rows and the bar that it is held to.
+pub fn table() -> Result<(Vec<Row>, Bar), Error> {
     println!(
         "\
 Receiving of 69 × 69 × 25, W 397: placing the packets, filling, and reading the file where nothing is left.
@@ -33,7 +41,16 @@ Receiving of 69 × 69 × 25, W 397: placing the packets, filling, and reading th
     );
     let rows = Receiving::new(REFERENCE_SET, kinds()?)?.rows(ROUNDS);
     rows.iter().for_each(Row::print);
-    Ok(rows)
+    let [once, twice] = [ONCE, TWICE].map(|what| {
+        let row = rows.iter().find(|row| row.what == what);
+        row.expect("a row of the table").milliseconds
+    });
+    let bar = Bar {
+        what: "reference set: receive, every packet twice over once".into(),
+        measured: twice / once,
+        most: 1.4,
+    };
+    Ok((rows, bar))
 }
 
 /// What is received of the reference set.
@@ -41,21 +58,34 @@ fn kinds() -> Result<Vec<Kind>, Refusal> {
     let cells = REFERENCE_SET.cells()?;
     let first = |percent: usize| -> Vec<usize> { (0..cells * percent / 100).collect() };
     let twice = [first(100), first(100)].concat();
+    let one_in_100 = (cells..2 * cells).step_by(100);
     let burst = in_succession(REFERENCE_SET);
     Ok(vec![
-        Kind::new("receive: all packets", first(100), true),
+        Kind::new(ONCE, first(100), true),
         Kind::without("receive: all but 2 × L1 × L2 in succession", &burst),
         Kind::new("receive: the first 25 % of the packets", first(25), false),
         Kind::new("receive: the first 50 %", first(50), false),
         Kind::new("receive: the first 75 %", first(75), false),
-        Kind::new("receive: all packets, twice", twice, true),
+        Kind::new(TWICE, twice.clone(), true),
+        Kind {
+            damaged: one_in_100.collect(),
+            ..Kind::new(
+                "receive: all packets, twice, of the second 1 % damaged",
+                twice,
+                true,
+            )
+        },
     ])
 }
 
 impl Kind {
     fn new(what: &str, cells: Vec<usize>, whole: bool) -> Kind {
-        let what = what.into();
-        Kind { what, cells, whole }
+        Kind {
+            what: what.into(),
+            cells,
+            damaged: vec![],
+            whole,
+        }
     }
 
     /// All packets but those of the flagged cells, which come back.
@@ -71,7 +101,7 @@ impl Receiving {
         let file = Random::new(8).bytes(shape.file_bytes()?);
         let written = write(shape, &file)?;
         let packets: Vec<Packet> = packets(&written)?.collect();
-        let airs = kinds.iter().map(|kind| air(shape, &packets, &kind.cells));
+        let airs = kinds.iter().map(|kind| air(shape, &packets, kind));
         let mut state = Receiving {
             shape,
             airs: airs.collect::<Result<_, _>>()?,
@@ -112,11 +142,16 @@ impl Receiving {
     }
 }
 
-/// The pack of these of the packets of a written pack.
-fn air(shape: Shape, written: &[Packet], cells: &[usize]) -> Result<Vec<u8>, Error> {
+/// The pack of these of the packets of a written pack. A damaged one has another last byte.
+fn air(shape: Shape, written: &[Packet], kind: &Kind) -> Result<Vec<u8>, Error> {
     let mut air = AirPack::new(shape)?;
-    for &cell in cells {
+    let head = air.as_bytes().len();
+    for &cell in &kind.cells {
         air.push(written[cell])?;
     }
-    Ok(air.into_bytes())
+    let mut bytes = air.into_bytes();
+    for &index in &kind.damaged {
+        bytes[head + (index + 1) * (3 + shape.w) - 1] ^= 0x01;
+    }
+    Ok(bytes)
 }

@@ -2,6 +2,7 @@
 //! shows a byte written beside it, and one function that runs both programs.
 
 mod agreement;
+mod copies;
 mod cubes;
 mod fill_trial;
 mod packs;
@@ -14,9 +15,10 @@ mod trial;
 
 use agreement::compare;
 pub use agreement::{Agreed, agree, numbered, placed};
+pub use copies::{CellCopy, air_of};
 pub use cubes::{Embedded, lightest_line, random_box, random_code_cube};
 pub use fill_trial::FillTrial;
-pub use packs::{KINDS, Source};
+pub use packs::{COPY_KINDS, KINDS, Source};
 pub use scan_trial::ScanTrial;
 pub use shapes::{LARGE_SHAPES, SHAPES_AT_THE_LIMITS, narrow_shapes, random_shape, twin};
 pub use text_trial::{FromText, ToText};

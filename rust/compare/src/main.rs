@@ -9,7 +9,7 @@ use std::time::Instant;
 
 use compare::{Answers, FromText, KINDS, TEXT_KINDS, ToText, Trial};
 use reference::random::Random;
-use reference::{Outcome, Received, Refusal};
+use reference::{Outcome, Refusal};
 
 /// How many disagreements are told in full.
 const TOLD: usize = 10;
@@ -82,9 +82,11 @@ impl Tally {
         self.count(0, write.map(|()| "done").map_err(Refusal::from));
         self.count(
             1,
-            receive.map(|Received { outcome, .. }| match outcome {
-                Outcome::File { .. } => "file",
-                Outcome::Left { .. } => "left",
+            receive.map(|received| match (received.outcome, received.conflicts) {
+                (Outcome::File { .. }, 0) => "file",
+                (Outcome::File { .. }, _) => "file, with conflicts",
+                (Outcome::Left { .. }, 0) => "left",
+                (Outcome::Left { .. }, _) => "left, with conflicts",
             }),
         );
         self.count(2, text.map(|()| "done"));

@@ -1,17 +1,20 @@
 //! Random packs of every kind, whole and damaged.
 
+use std::ops::Range;
+
 use reference::Shape;
 use reference::pack::{COUNT, pack, packet, read_shape};
 use reference::random::Random;
 use reference::write::data_string;
 
+use crate::copies::{all_differ, last_byte_differs, one_differs, some_differ, two_transponders};
 use crate::{Embedded, SHAPES_AT_THE_LIMITS, random_shape, twin};
 
 /// Makes a random pack.
 type Make = fn(&mut Random) -> Vec<u8>;
 
 /// The kinds of packs, each with the function that makes one.
-pub const KINDS: [(&str, Make); 18] = [
+pub const KINDS: [(&str, Make); 22] = [
     ("a file to write", job),
     ("every packet", every_packet),
     ("packets lost at random", lost_at_random),
@@ -21,7 +24,11 @@ pub const KINDS: [(&str, Make); 18] = [
     ("no packet", no_packet),
     ("no room for the file's length", no_room),
     ("wrong bytes in packets", wrong_bytes),
-    ("a copy with other bytes", other_copy),
+    ("a copy with other bytes", one_differs),
+    ("cells whose copies differ", some_differ),
+    ("every cell's copies differ", all_differ),
+    ("copies that differ in the last byte", last_byte_differs),
+    ("two transponders", two_transponders),
     ("a cell outside the cube", cell_outside),
     ("a data string of no file", no_file),
     ("cut", cut),
@@ -34,6 +41,9 @@ pub const KINDS: [(&str, Make); 18] = [
 
 /// How many of the kinds, the first ones, are whole packs.
 const WHOLE: usize = 7;
+
+/// The kinds in which copies of a cell differ.
+pub const COPY_KINDS: Range<usize> = 9..14;
 
 /// Where the packets of an air pack begin.
 const HEAD: usize = 17;
@@ -88,7 +98,7 @@ impl Source {
         Source::new(shape, &data_string(shape, &file))
     }
 
-    fn random(random: &mut Random) -> Source {
+    pub(crate) fn random(random: &mut Random) -> Source {
         let shape = roomy_shape(random);
         Source::of_shape(random, shape)
     }
@@ -101,8 +111,7 @@ impl Source {
             }
         }
         if random.chance(50) {
-            let order = random.different(cells.len(), cells.len());
-            cells = order.into_iter().map(|i| cells[i]).collect();
+            cells = random.shuffled(&cells);
         }
         self.air_in_order(&cells)
     }
@@ -193,21 +202,6 @@ fn wrong_bytes(random: &mut Random) -> Vec<u8> {
         source.cube[at] ^= random.nonzero_byte();
     }
     source.some_of_it(random)
-}
-
-fn other_copy(random: &mut Random) -> Vec<u8> {
-    let source = Source::random(random);
-    let Shape { w, .. } = source.shape;
-    let mut cells = random.different(source.shape.cells(), source.shape.cells());
-    let copied = cells[0];
-    for _ in 0..random.among(1..=4) {
-        cells.insert(random.among(0..=cells.len()), copied);
-    }
-    let copies: Vec<usize> = (0..cells.len()).filter(|&i| cells[i] == copied).collect();
-    let mut air = source.air_in_order(&cells);
-    let start = start_of(source.shape, random.pick(&copies));
-    air[start + 3 + random.among(0..=w - 1)] ^= random.nonzero_byte();
-    air
 }
 
 fn cell_outside(random: &mut Random) -> Vec<u8> {

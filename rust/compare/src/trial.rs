@@ -115,25 +115,31 @@ impl Trial {
 fn told(
     result: Result<Received, jibrufath::Refusal>,
 ) -> Result<reference::Received, reference::Refusal> {
-    let received = result.map_err(placed)?;
-    let (outcome, packets, repeats) = match received {
+    Ok(match result.map_err(placed)? {
         Received::File {
             len,
             packets,
             repeats,
+            conflicts,
             ..
-        } => (Outcome::File { len }, packets, repeats),
+        } => reference::Received {
+            outcome: Outcome::File { len },
+            packets,
+            repeats,
+            conflicts,
+        },
         Received::Left {
             cells,
             packets,
             repeats,
+            conflicts,
             ..
-        } => (Outcome::Left { cells }, packets, repeats),
-    };
-    Ok(reference::Received {
-        outcome,
-        packets,
-        repeats,
+        } => reference::Received {
+            outcome: Outcome::Left { cells },
+            packets,
+            repeats,
+            conflicts,
+        },
     })
 }
 

@@ -117,7 +117,7 @@ mod tests {
     fn packs_of_every_kind() {
         let mut random = Random::new(7001);
         let mut seen = BTreeMap::new();
-        for case in 0..9_000 {
+        for case in 0..17_600 {
             let (_, make) = KINDS[case % KINDS.len()];
             *seen.entry(compare_places(&make(&mut random))).or_insert(0) += 1;
         }

@@ -5,7 +5,8 @@ use crate::ffi::jibrufath_receive_pack;
 use crate::refusal::answer;
 use crate::{Error, Needs, Refusal, needs};
 
-/// The counts that come with the library's answer: the file's length, the packets, the repeats, then places that are kept.
+/// The counts that come with the library's answer: the file's length, the packets, the repeats, and in place 13 the conflicts. The
+/// other places are kept.
 type Counts = [u64; 16];
 
 /// What came of a pack that [`receive_pack`] did not refuse: a file, or cells left.
@@ -22,6 +23,11 @@ type Counts = [u64; 16];
 /// air.push(Packet { coordinates: [0, 0, 0], bytes: &[0; 5] })?;
 /// let received = receive_pack(air.as_bytes(), &mut [0; 135], &mut [0; 27], &mut [0; 1])?;
 /// assert!(matches!(received, Received::File { len: 0, packets: 1, repeats: 0, .. }));
+///
+/// // A second copy with other bytes makes the cell missing again.
+/// air.push(Packet { coordinates: [0, 0, 0], bytes: &[1; 5] })?;
+/// let received = receive_pack(air.as_bytes(), &mut [0; 135], &mut [0; 27], &mut [0; 1])?;
+/// assert!(matches!(received, Received::Left { cells: 27, packets: 2, repeats: 1, conflicts: 1, .. }));
 /// # Ok::<(), jibrufath::Error>(())
 /// ```
 #[derive(Clone, Copy, Debug, PartialEq, Eq, Hash)]
@@ -33,8 +39,10 @@ pub enum Received {
         len: usize,
         /// The packets of the pack.
         packets: u64,
-        /// The packets whose cell had come before.
+        /// The packets whose cell had come before, with the same bytes or with others.
         repeats: u64,
+        /// The cells whose copies are not all equal.
+        conflicts: u64,
     },
     /// Cells are left, and the file buffer has not changed.
     #[non_exhaustive]
@@ -43,17 +51,22 @@ pub enum Received {
         cells: usize,
         /// The packets of the pack.
         packets: u64,
-        /// The packets whose cell had come before.
+        /// The packets whose cell had come before, with the same bytes or with others.
         repeats: u64,
+        /// The cells whose copies are not all equal.
+        conflicts: u64,
     },
 }
 
 /// Places the packets of an air pack, fills what the lines force, and gives the file where nothing is left.
 ///
 /// The lent slices have the lengths that [`needs`] gives for the pack: `cube` [`Needs::cube_bytes`], `flags` [`Needs::cells`],
-/// `file` [`Needs::file_bytes`]. What they hold before does not matter. Packets come in any order, each any number of times.
-/// Afterwards the cube and the flags stand as [`fill`](crate::fill) leaves them. A file changes only the bytes of `file` that it
-/// needs, and cells left change none.
+/// `file` [`Needs::file_bytes`]. What they hold before does not matter. Afterwards the cube and the flags stand as
+/// [`fill`](crate::fill) leaves them. A file changes only the bytes of `file` that it needs, and cells left change none.
+///
+/// Packets come in any order, each any number of times. A cell is known where its copies are all equal. Copies that differ make
+/// their cell missing, whichever came first, and no further copy makes it known again; like any other missing cell it is filled
+/// where the lines force its bytes.
 ///
 /// # Errors
 ///
@@ -61,8 +74,8 @@ pub enum Received {
 /// [`Shape::check`](crate::Shape::check), [`Refusal::Capacity`], [`Refusal::SectionCount`], [`Refusal::TrailingBytes`]; then
 /// [`Refusal::SliceLength`] and [`Refusal::CellIndex`]. All these change no byte. Then:
 ///
-/// - [`Refusal::Conflict`], with the cube all 00h and the flags all 1;
-/// - [`Refusal::Contradiction`], with the packets placed, missing cells 00h and their flags 1;
+/// - [`Refusal::Contradiction`], with the known cells placed, missing cells 00h and their flags 1; copies that are all equal and
+///   all wrong may lead to it;
 /// - [`Refusal::FileLength`], with the cube and the flags as filled.
 ///
 /// No refusal changes a byte of `file`.
@@ -94,17 +107,19 @@ pub fn receive_pack(
 ) -> Result<Received, Refusal> {
     let mut counts = [0; 16];
     let left = answer(call(air, cube, flags, file, &mut counts))?;
-    let [len, packets, repeats, ..] = counts;
+    let [len, packets, repeats, .., conflicts, _, _] = counts;
     Ok(match left {
         0 => Received::File {
             len: len as usize,
             packets,
             repeats,
+            conflicts,
         },
         cells => Received::Left {
             cells,
             packets,
             repeats,
+            conflicts,
         },
     })
 }
@@ -166,8 +181,10 @@ pub enum Reception {
         file: Vec<u8>,
         /// The packets of the pack.
         packets: u64,
-        /// The packets whose cell had come before.
+        /// The packets whose cell had come before, with the same bytes or with others.
         repeats: u64,
+        /// The cells whose copies are not all equal.
+        conflicts: u64,
     },
     /// Cells are left.
     #[non_exhaustive]
@@ -178,8 +195,10 @@ pub enum Reception {
         flags: Vec<u8>,
         /// The packets of the pack.
         packets: u64,
-        /// The packets whose cell had come before.
+        /// The packets whose cell had come before, with the same bytes or with others.
         repeats: u64,
+        /// The cells whose copies are not all equal.
+        conflicts: u64,
     },
 }
 
@@ -261,6 +280,29 @@ pub fn default_limit(air: &[u8]) -> usize {
 /// assert_eq!(receive(&pack[..16]), Err(Error::Refused(Refusal::Truncated)));
 /// # Ok::<(), Error>(())
 /// ```
+///
+/// Through two transponders every packet comes twice. Where the two copies of a cell differ, neither is believed, and the other
+/// cells give it back:
+///
+/// ```
+/// use jibrufath::{AirPack, Error, Reception, Shape, packets, receive, write};
+///
+/// let shape = Shape::new(5, 4, 3, 16);
+/// let first = write(shape, b"a broadcast")?;
+/// let mut second = first.clone();
+/// if let Some(byte) = second.last_mut() {
+///     *byte ^= 0x40; // damaged on its way
+/// }
+///
+/// let mut air = AirPack::new(shape)?;
+/// for packet in packets(&first)?.chain(packets(&second)?) {
+///     air.push(packet)?;
+/// }
+/// let reception = receive(air.as_bytes())?;
+/// assert!(matches!(reception, Reception::File { packets: 120, repeats: 60, conflicts: 1, .. }));
+/// assert_eq!(reception.into_file().as_deref(), Some(&b"a broadcast"[..]));
+/// # Ok::<(), Error>(())
+/// ```
 pub fn receive(air: &[u8]) -> Result<Reception, Error> {
     receive_within(air, default_limit(air))
 }
@@ -295,23 +337,27 @@ pub fn receive_within(air: &[u8], limit: usize) -> Result<Reception, Error> {
             len,
             packets,
             repeats,
+            conflicts,
         } => {
             file.truncate(len);
             Reception::File {
                 file,
                 packets,
                 repeats,
+                conflicts,
             }
         }
         Received::Left {
             cells,
             packets,
             repeats,
+            conflicts,
         } => Reception::Left {
             cells,
             flags,
             packets,
             repeats,
+            conflicts,
         },
     })
 }
@@ -336,6 +382,7 @@ mod tests {
             };
             counts[1] = received.packets;
             counts[2] = received.repeats;
+            counts[13] = received.conflicts;
         }
         counts
     }
@@ -351,5 +398,28 @@ mod tests {
             call(&trial.pack, &mut cube, &mut flags, &mut file, &mut counts);
             assert_eq!(counts, expected(&trial), "{trial:?}");
         }
+    }
+
+    /// Cell 0 in conflict is counted; a wrong cell beside it makes a refusal, and nothing is.
+    #[test]
+    fn counts_of_a_conflict() {
+        let shape = reference::Shape::new(3, 3, 3, 5);
+        let source = compare::Source::new(shape, &[1, 0, 0, 0, 0x08]);
+        let [mut other, mut wrong] = [0, 26].map(|cell| source.sent(cell));
+        other.bytes[4] ^= 1;
+        wrong.bytes[0] ^= 1;
+        let mut copies = [vec![other], source.all_sent()].concat();
+        let counted = |copies: &[compare::CellCopy]| {
+            let mut counts = [u64::MAX; 16];
+            let air = compare::air_of(shape, copies);
+            call(&air, &mut [0; 135], &mut [0; 27], &mut [0; 1], &mut counts);
+            counts
+        };
+        assert_eq!(
+            counted(&copies),
+            [1, 28, 1, 0, 0, 0, 0, 0, 0, 0, 0, 0, 0, 1, 0, 0]
+        );
+        *copies.last_mut().expect("cell 26") = wrong;
+        assert_eq!(counted(&copies), [0; 16]);
     }
 }

@@ -2,7 +2,7 @@
 
 use std::fmt;
 
-/// Why a call refused its input. The numbers are those of the table in document 01.
+/// Why a call refused its input. The numbers are those of the table in document 01, of which 12 does not occur.
 ///
 /// ```
 /// use jibrufath::{Refusal, Shape};
@@ -40,11 +40,6 @@ pub enum Refusal {
         /// The packet's index, from 0.
         packet: u64,
     },
-    /// 12: a packet's cell came before with other bytes.
-    Conflict {
-        /// The packet's index, from 0.
-        packet: u64,
-    },
     /// 13: the known cells contradict each other: no filling exists.
     Contradiction,
     /// 14: the data string holds no file: its length is too large, or a byte behind it is not 00h.
@@ -79,7 +74,6 @@ impl Refusal {
             Refusal::SectionCount => 9,
             Refusal::Capacity => 10,
             Refusal::CellIndex { .. } => 11,
-            Refusal::Conflict { .. } => 12,
             Refusal::Contradiction => 13,
             Refusal::FileLength => 14,
             Refusal::Erasure => 15,
@@ -93,12 +87,12 @@ impl Refusal {
     /// ```
     /// use jibrufath::Refusal;
     ///
-    /// assert_eq!(Refusal::Conflict { packet: 7 }.packet(), Some(7));
+    /// assert_eq!(Refusal::CellIndex { packet: 7 }.packet(), Some(7));
     /// assert_eq!(Refusal::Contradiction.packet(), None);
     /// ```
     pub fn packet(self) -> Option<u64> {
         match self {
-            Refusal::CellIndex { packet } | Refusal::Conflict { packet } => Some(packet),
+            Refusal::CellIndex { packet } => Some(packet),
             _ => None,
         }
     }
@@ -132,7 +126,6 @@ impl Refusal {
             9 => Refusal::SectionCount,
             10 => Refusal::Capacity,
             11 => Refusal::CellIndex { packet: place },
-            12 => Refusal::Conflict { packet: place },
             13 => Refusal::Contradiction,
             14 => Refusal::FileLength,
             15 => Refusal::Erasure,
@@ -159,7 +152,6 @@ impl fmt::Display for Refusal {
             Refusal::SectionCount => "the section that must be empty is not",
             Refusal::Capacity => "the data string has no room for the file",
             Refusal::CellIndex { .. } => "a packet names a cell outside the cube",
-            Refusal::Conflict { .. } => "a packet's cell came before with other bytes",
             Refusal::Contradiction => "the known cells contradict each other",
             Refusal::FileLength => "the data string holds no file",
             Refusal::Erasure => "a cell is flagged missing",
@@ -195,13 +187,18 @@ mod tests {
     fn answers() {
         assert_eq!(answer(0), Ok(0));
         assert_eq!(answer(27 * 256), Ok(27));
-        for number in 1..=17u8 {
+        for number in (1..=11).chain(13..=17u8) {
             let refusal = answer(u64::from(number) + 7 * 256).unwrap_err();
             assert_eq!(refusal.number(), number);
-            let packet = matches!(number, 11 | 12).then_some(7);
-            assert_eq!(refusal.packet(), packet);
+            assert_eq!(refusal.packet(), (number == 11).then_some(7));
             assert_eq!(refusal.line(), (number == 17).then_some(7));
         }
+    }
+
+    #[test]
+    #[should_panic(expected = "numbers of the table")]
+    fn twelve_does_not_occur() {
+        let _ = answer(12 + 7 * 256);
     }
 
     #[test]

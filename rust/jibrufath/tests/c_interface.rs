@@ -7,8 +7,9 @@ use std::process::Command;
 /// What the example in C prints.
 const PRINTED: &str = "\
 125 packets of 16 bytes written
-50 packets lost: \"Splice plan 17: fibre 3 to fibre 12, tray B.\"
-75 packets lost: 75 cells left
+50 packets lost: 0 conflicts, \"Splice plan 17: fibre 3 to fibre 12, tray B.\"
+75 packets lost: 0 conflicts, 75 cells left
+every packet twice, 25 damaged: 25 conflicts, \"Splice plan 17: fibre 3 to fibre 12, tray B.\"
 a packet for a cell outside the cube: refused 11, packet 0
 a pack of another shape: no room for a cube of 265302000 bytes
 ";

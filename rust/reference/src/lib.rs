@@ -2,8 +2,8 @@
 //!
 //! It is made to be compared with, so it takes other ways than the library where it can: log tables for
 //! the field, linear equations for encoding and filling small cubes, another order of axes for encoding
-//! large ones, a work list for filling them, a map of the packets that were heard, texts split into words. Clarity comes
-//! before speed.
+//! large ones, a work list for filling them, a map of the copies that were heard of each cell, texts split into words.
+//! Clarity comes before speed.
 //!
 //! Each operation answers `Err(number)` with the number of document 01's table, and leaves lent memory
 //! as that document says.

@@ -58,6 +58,7 @@ fn report(shape: Shape, received: Received, flags: &[u8], file: &[u8]) -> String
         outcome,
         packets,
         repeats,
+        ..
     } = received;
     let [l1, l2, l3] = shape.lengths;
     let w = shape.w;

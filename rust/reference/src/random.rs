@@ -49,6 +49,12 @@ impl Random {
         bytes
     }
 
+    /// The items in random order.
+    pub fn shuffled<T: Clone>(&mut self, items: &[T]) -> Vec<T> {
+        let order = self.different(items.len(), items.len());
+        order.into_iter().map(|i| items[i].clone()).collect()
+    }
+
     /// `count` different numbers below `bound`, in random order.
     pub fn different(&mut self, count: usize, bound: usize) -> Vec<usize> {
         let mut numbers: Vec<usize> = (0..bound).collect();

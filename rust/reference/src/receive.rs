@@ -1,8 +1,10 @@
 //! The receiver: packets are collected by their cells, the cube is filled, and the file read where nothing is left.
+//!
+//! A cell is known where packets name it and all of them have the same bytes.
 
 use std::collections::BTreeMap;
 
-use crate::pack::{Air, COUNT, number, read_air};
+use crate::pack::{Air, COUNT, Packet, number, read_air};
 use crate::{Shape, extract, fill};
 
 /// What came of a pack that was not refused.
@@ -11,6 +13,8 @@ pub struct Received {
     pub outcome: Outcome,
     pub packets: u64,
     pub repeats: u64,
+    /// The cells whose copies are not all equal.
+    pub conflicts: u64,
 }
 
 #[derive(Clone, Copy, Debug, PartialEq, Eq)]
@@ -21,7 +25,7 @@ pub enum Outcome {
     Left { cells: usize },
 }
 
-/// The number of a refusal and the place that it names: with 11 and 12 a packet's index, with 17 a line's number.
+/// The number of a refusal and the place that it names: with 11 a packet's index, with 17 a line's number.
 #[derive(Clone, Copy, Debug, PartialEq, Eq)]
 pub struct Refusal {
     pub number: u8,
@@ -58,23 +62,19 @@ pub fn receive_pack(
     if lent != [shape.cube_bytes(), shape.cells(), shape.file_bytes()] {
         return Err(4.into());
     }
-    let places = packets.iter().map(|packet| packet.place.map(usize::from));
-    let outside = |place: [usize; 3]| (0..3).any(|axis| place[axis] >= shape.lengths[axis]);
-    if let Some(index) = places.clone().position(outside) {
+    let outside = |packet: &Packet| (0..3).any(|i| coordinates(packet)[i] >= shape.lengths[i]);
+    if let Some(index) = packets.iter().position(outside) {
         return Err(Refusal::at(11, index));
     }
+    let heard = copies(shape, &packets);
+    let (known, in_conflict): (BTreeMap<_, _>, BTreeMap<_, _>) = heard
+        .iter()
+        .partition(|(_, copies)| copies.iter().all(|&copy| copy == copies[0]));
     // Missing cells are 00h wherever the paper says what they hold.
     cube.fill(0x00);
     flags.fill(1);
-    let mut heard = BTreeMap::new();
-    for (index, (place, packet)) in places.zip(&packets).enumerate() {
-        let first = heard.entry(shape.cell(place)).or_insert(packet.bytes);
-        if *first != packet.bytes {
-            return Err(Refusal::at(12, index));
-        }
-    }
-    for (&cell, bytes) in &heard {
-        cube[shape.bytes(cell)].copy_from_slice(bytes);
+    for (&cell, copies) in known {
+        cube[shape.bytes(cell)].copy_from_slice(copies[0]);
         flags[cell] = 0;
     }
     let outcome = match fill(shape, cube, flags)? {
@@ -87,7 +87,22 @@ pub fn receive_pack(
         outcome,
         packets: packets.len() as u64,
         repeats: (packets.len() - heard.len()) as u64,
+        conflicts: in_conflict.len() as u64,
     })
+}
+
+fn coordinates(packet: &Packet) -> [usize; 3] {
+    packet.place.map(usize::from)
+}
+
+/// The cells that packets name, each with the bytes of all its packets.
+fn copies<'a>(shape: Shape, packets: &[Packet<'a>]) -> BTreeMap<usize, Vec<&'a [u8]>> {
+    let mut copies: BTreeMap<usize, Vec<&[u8]>> = BTreeMap::new();
+    for packet in packets {
+        let cell = shape.cell(coordinates(packet));
+        copies.entry(cell).or_default().push(packet.bytes);
+    }
+    copies
 }
 
 /// Reads the file of a code cube, and answers its length; 14 where the data string is none of a file.
@@ -111,7 +126,7 @@ fn read_file(shape: Shape, cube: &[u8], file: &mut [u8]) -> Result<usize, u8> {
 mod tests {
     use super::*;
     use crate::encode;
-    use crate::pack::{Packet, pack, packet};
+    use crate::pack::{pack, packet};
     use crate::write::data_string;
 
     /// 3 by 3 by 3 cells of 6 bytes: a file has up to 2.
@@ -157,6 +172,7 @@ mod tests {
             outcome: Outcome::File { len: 1 },
             packets: 2,
             repeats: 1,
+            conflicts: 0,
         };
         assert_eq!(memory.receive(&packets), Ok(received));
         assert_eq!(memory.cube, right);
@@ -171,6 +187,7 @@ mod tests {
             outcome: Outcome::Left { cells: 27 },
             packets: 0,
             repeats: 0,
+            conflicts: 0,
         };
         assert_eq!(memory.receive(&[]), Ok(received));
         assert_eq!(memory.cube, [0x00; 162]);
@@ -179,23 +196,52 @@ mod tests {
     }
 
     #[test]
-    fn packets_refused() {
+    fn a_packet_outside() {
         let [a, b]: [&[u8]; 2] = [&[1; 6], &[2; 6]];
         let at = |place, bytes| Packet { place, bytes };
-
-        let mut kept = memory();
         let packets = [at([0; 3], a), at([0, 0, 3], a), at([0; 3], b)];
-        let refused = Err(Refusal::at(11, 1));
-        assert_eq!(kept.receive(&packets), refused);
+        let mut kept = memory();
+        assert_eq!(kept.receive(&packets), Err(Refusal::at(11, 1)));
         assert_eq!((kept.cube[0], kept.flags[0]), (0xAA, 0xBB));
+    }
 
-        let mut cleared = memory();
-        let packets = [at([0; 3], a), at([0; 3], b), at([0; 3], a)];
-        let refused = Err(Refusal::at(12, 1));
-        assert_eq!(cleared.receive(&packets), refused);
-        assert_eq!(cleared.cube, [0x00; 162]);
-        assert_eq!(cleared.flags, [1; 27]);
-        assert_eq!(cleared.file, [0xCC; 2]);
+    #[test]
+    fn copies_that_differ() {
+        let right = code_cube(&data_string(SHAPE, &[0x08]));
+        let good = packet(SHAPE, &right, 13);
+        let wrong = Packet {
+            bytes: &[0x55; 6],
+            ..good
+        };
+        for copies in [
+            [good, wrong, good],
+            [good, good, wrong],
+            [wrong, good, good],
+        ] {
+            // By themselves they make nothing known.
+            let received = |outcome, packets| {
+                Ok(Received {
+                    outcome,
+                    packets,
+                    repeats: 2,
+                    conflicts: 1,
+                })
+            };
+            let mut nothing = memory();
+            let left = received(Outcome::Left { cells: 27 }, 3);
+            assert_eq!(nothing.receive(&copies), left);
+            assert_eq!(nothing.cube, [0x00; 162]);
+            assert_eq!(nothing.flags, [1; 27]);
+            assert_eq!(nothing.file, [0xCC; 2]);
+
+            // Another packet forces their cell.
+            let mut whole = memory();
+            let packets = [&copies[..], &[packet(SHAPE, &right, 0)]].concat();
+            let file = received(Outcome::File { len: 1 }, 4);
+            assert_eq!(whole.receive(&packets), file);
+            assert_eq!(whole.cube, right);
+            assert_eq!(whole.flags, [0; 27]);
+        }
     }
 
     #[test]
