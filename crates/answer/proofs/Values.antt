@@ -178,10 +178,6 @@ answer-injective Done (Refused f) e = absurd (refusal-gives f tt (sym e))
 answer-injective (Refused f) Done e = absurd (refusal-gives f tt e)
 answer-injective (Refused f) (Refused g) e = ap Refused (refusal-injective f g e)
 
-pub answer-done : (r : Answer) → answerValue r ≡ gives tt → r ≡ Done
-unfolding answerValue
-answer-done r e = answer-injective r Done e
-
 -- what a caller learns of the checks from the answer of a call that does nothing but check
 pub answer-passed : (r : Answer) (c : Checked Unit) → answerValue r ≡ checked c → r ≡ Done → c ≡ passes tt
 unfolding answerValue

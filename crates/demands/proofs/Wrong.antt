@@ -18,7 +18,6 @@ use Rattle.shape.proofs.Geometry.{cell-coordinates}
 use Rattle.line.specs.Line.{syndrome0}
 use Rattle.data.specs.Data.{layer}
 use Rattle.cube.specs.Cube.{layerLine}
-use Rattle.cube.specs.Encoded.{encoded}
 use Rattle.stopping.specs.Stopping.{number}
 use Rattle.stopping.proofs.Number.{true-or-false, number-in, number-out, number-nil, number-le}
 use Rattle.pack.specs.declared.Section.{Section}

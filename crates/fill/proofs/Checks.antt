@@ -3,8 +3,7 @@ use mathlib.Core.Path.{_≡_, refl}
 use mathlib.Core.Bool.{Bool, true, false, cond}
 use mathlib.Core.List.{List}
 use mathlib.Core.Logic.{_≢_, _⊎_, ⊎-elim}
-use Prim.Native.Nat.{ℕ, _≤_}
-use native.Mathlib.Omega.{arith}
+use Prim.Native.Nat.{ℕ}
 use borrow.Author.Tests.{eqb-true, eq-eqb, ne-eqb}
 use lib.Dec.{eqb}
 use lib.ListN.{length}
@@ -14,14 +13,14 @@ use Rattle.answer.specs.declared.Refusal.the-variants.{Plain}
 use Rattle.answer.specs.declared.Answer.the-variants.{Done, Refused}
 use Rattle.answer.specs.Refusals.{faultNumber}
 use Rattle.answer.specs.Values.{passes, fails, check, andThen, checked, refusal, answerValue}
-use Rattle.answer.proofs.Values.{check-passed, then-passed, then-refused, check-number, then-number, passes-number}
+use Rattle.answer.proofs.Values.{check-passed, then-passed, then-refused}
 use Rattle.shape.specs.declared.Shape.{Shape}
 use Rattle.shape.specs.declared.Sizes.{Sizes}
 use Rattle.shape.specs.declared.Measured.{Measured}
 use Rattle.shape.specs.declared.Measured.the-variants.{Refused as Misfit}
 use Rattle.shape.specs.Shapes.{both, shapeChecked, measuredValue}
 use Rattle.shape.specs.Flags.{flagsValid}
-use Rattle.shape.proofs.Valid.{both-parts, both-true, shape-number, measure-refused}
+use Rattle.shape.proofs.Valid.{both-parts, both-true, measure-refused}
 use Rattle.fill.specs.Fill.{flagsChecked}
 use Rattle.peel.specs.Peel.{Sized}
 use Rattle.peel.proofs.Sizing.{passed-sized}
@@ -72,13 +71,3 @@ done-sized sh xs fs e = let (z, fits, p, q, v) = checks-passed sh (length xs) fs
 
 pub done-flags : (sh : Shape) (n : ℕ) (fs : List ℕ) → flagsChecked sh n fs ≡ passes tt → flagsValid fs ≡ true
 done-flags sh n fs e = let (z, fits, p, q, v) = checks-passed sh n fs e in v
-
--- the numbers of the checks
-pub checks-number : (sh : Shape) (k : ℕ) (fs : List ℕ) (n : ℕ) → flagsChecked sh k fs ≡ fails n → (1 ≤ n) × (n ≤ 5)
-unfolding flagsChecked
-checks-number sh k fs n =
-    then-number Low n (shapeChecked sh) _ (λ e. let (low, high) = shape-number sh n e in (low, omega arith))
-    (λ z. check-number Low n _ 4 _ (omega arith) (check-number Low n _ 5 _ (omega arith) (passes-number Low n tt)))
-  where
-    Low : ℕ → Type 0
-    Low m = (1 ≤ m) × (m ≤ 5)

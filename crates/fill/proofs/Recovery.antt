@@ -1,6 +1,5 @@
 -- What follows from the contract of `fill` alone. Where the known cells are those of a code cube there is no contradiction, and the cube left is
--- that code cube with 00h on the cells left. 26 or fewer missing cells leave none; where cells are left there are 27 or more, a data cell among
--- them.
+-- that code cube with 00h on the cells left. 26 or fewer missing cells leave none.
 use mathlib.Core.Path.{_≡_, refl, sym, ap, subst, _∙_}
 use mathlib.Core.Bool.{Bool, true, false, cond, true≢false}
 use mathlib.Core.List.{List, [], _∷_}
@@ -22,9 +21,9 @@ use Rattle.shape.proofs.Geometry.{line-cell-lt}
 use Rattle.data.specs.Data.{layer}
 use Rattle.cube.specs.Cube.{layerLine, CodeCube}
 use Rattle.stopping.specs.Stopping.{number, Largest}
-use Rattle.stopping.proofs.Number.{not-true-false, member, number-le, number-zero}
+use Rattle.stopping.proofs.Number.{not-true-false, number-le, number-zero}
 use Rattle.stopping.proofs.Stopping.{onLine-zero, stopping-size}
-use Rattle.stopping.proofs.Cube.{stopping-none-or-27, stopping-data}
+use Rattle.stopping.proofs.Cube.{stopping-none-or-27}
 use Rattle.fill.specs.declared.FillAnswer.{FillAnswer}
 use Rattle.fill.specs.declared.FillAnswer.the-variants.{Left, Refused}
 use Rattle.fill.specs.Fill.{CellsLeft, left, fillValue, flagsChecked, Filling, Cleared, FillOutcome, fill-refused, fill-done, fill-contradiction}
@@ -142,16 +141,6 @@ recovered-whole {sh} {fs} {X} {xs′} {fs′} h v size none =
 -- ---- how many cells are left
 
 module _ {r : ℕ} {sh : Shape} {xs fs xs′ fs′ : List ℕ} where
-  -- the number left is 0, or 27 or more and a data cell is left
-  pub left-none-or-27 : {n : ℕ} → FillOutcome r sh xs fs xs′ fs′ (gives (left n)) → (n ≡ 0) ⊎ (27 ≤ n)
-  left-none-or-27 (fill-done d s v k u) = stopping-none-or-27 (k .stopping)
-
-  pub left-data : {n : ℕ} → FillOutcome r sh xs fs xs′ fs′ (gives (left n)) → n ≢ 0
-      → (a : ℕ) × (b : ℕ) × (c : ℕ) × (a < sh .l1 - 2) × (b < sh .l2 - 2) × (c < sh .l3 - 2) × (missing fs′ (cell sh a b c) ≡ true)
-  left-data (fill-done d s v k u) some =
-      let (n, l, e) = member (missing fs′) (cells sh) (omega arith) in
-      stopping-data (k .stopping) n l e
-
   -- no more cells are left than the largest cube has
   pub left-le : {n : ℕ} → FillOutcome r sh xs fs xs′ fs′ (gives (left n)) → n ≤ 16581375
   unfolding cells

@@ -22,9 +22,9 @@ use Rattle.shape.specs.Shapes.{both, cells}
 use Rattle.shape.specs.Inner.Marks.{isMarked, Remarked}
 use Rattle.data.specs.Data.{layer}
 use Rattle.stopping.specs.Stopping.{number}
-use Rattle.stopping.proofs.Number.{true-or-false, not-true-false, number-nil, number-le, number-cong, number-none, number-zero}
+use Rattle.stopping.proofs.Number.{true-or-false, number-nil, number-le, number-cong, number-none, number-zero}
 use Rattle.pack.specs.Packets.{Source}
-use Rattle.receiver.specs.Placing.{among, repeatsOf, agreed, conflicting, conflictsOf, flagAt, Standing, Placed}
+use Rattle.receiver.specs.Placing.{among, repeatsOf, agreed, conflicting, conflictsOf, flagAt, Placed}
 use Rattle.receiver.specs.Inner.Placing.{markAt, Marked, Arrived, Tried, Run, Stops}
 use Rattle.receiver.proofs.Copies.{among-earlier, among-same, among-other, earlier-among, agreed-none, equal-conflict, agreed-other, agreed-more, agreed-differs, agreed-never}
 

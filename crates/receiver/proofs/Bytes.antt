@@ -1,10 +1,10 @@
 -- Small laws of lists and answers.
-use mathlib.Core.Path.{_≡_, ap, _∙_}
+use mathlib.Core.Path.{_≡_}
 use mathlib.Core.List.{List}
 use Prim.Native.Nat.{ℕ}
 use native.Mathlib.Omega.{arith}
 use mathlib.Core.Bool.{Bool}
-use lib.ListN.{length, replicate, length-replicate}
+use lib.ListN.{length, replicate}
 use Rattle.span.specs.Span.{SetOutcome}
 use Rattle.span.proofs.Setting.{set-whole}
 
@@ -15,6 +15,3 @@ clash z = absurd (omega arith)
 -- a slice set from end to end
 pub set-all : (s after : List ℕ) (n v : ℕ) (answer : Bool) → SetOutcome s 0 n v after answer → n ≡ length s → after ≡ replicate n v
 set-all s after n v answer o e = set-whole (o .done (omega arith) .1) e
-
-pub replicate-size : (s : List ℕ) (n v : ℕ) → s ≡ replicate n v → length s ≡ n
-replicate-size s n v e = ap length e ∙ length-replicate n v
