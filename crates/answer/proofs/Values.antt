@@ -147,27 +147,14 @@ refusal-injective (Line m) (Plain g) e = let z : _≡_ {A = ℕ} 0 1 = cc in abs
 refusal-injective (Line m) (Packet g j) e = absurd (packet-fault-line g cc)
 refusal-injective (Line m) (Line n) e = ap Line cc
 
--- "Number 12 no longer occurs."
-fault-not-12 : (f : Fault) → faultNumber f ≢ 12
-unfolding faultNumber
-fault-not-12 Dimension e = omega arith
-fault-not-12 PacketSize e = omega arith
-fault-not-12 CubeSize e = omega arith
-fault-not-12 SliceLength e = omega arith
-fault-not-12 FlagValue e = omega arith
-fault-not-12 Truncated e = omega arith
-fault-not-12 HeaderCount e = omega arith
-fault-not-12 TrailingBytes e = omega arith
-fault-not-12 SectionCount e = omega arith
-fault-not-12 Capacity e = omega arith
-fault-not-12 Contradiction e = omega arith
-fault-not-12 FileLength e = omega arith
-fault-not-12 Erasure e = omega arith
-fault-not-12 Uncorrected e = omega arith
+-- a number that `faultAt` does not give back is no fault's
+fault-none : (n : ℕ) → faultNumber (faultAt n) ≢ n → (f : Fault) → faultNumber f ≢ n
+fault-none n other f e = other (ap (λ (m : ℕ). faultNumber (faultAt m)) (sym e) ∙ ap faultNumber (fault-at f) ∙ e)
 
+-- "Number 12 no longer occurs."
 pub retired-12 : Retired 12
-unfolding Retired refusal numberOf
-retired-12 (Plain f) e = fault-not-12 f e
+unfolding Retired refusal numberOf faultNumber faultAt
+retired-12 (Plain f) e = fault-none 12 (λ z. omega arith) f e
 retired-12 (Packet f i) e = omega (arith, packet-fault-number f)
 retired-12 (Line n) e = omega arith
 
