@@ -115,31 +115,27 @@ impl Trial {
 fn told(
     result: Result<Received, jibrufath::Refusal>,
 ) -> Result<reference::Received, reference::Refusal> {
-    Ok(match result.map_err(placed)? {
+    let (outcome, packets, repeats, conflicts) = match result.map_err(placed)? {
         Received::File {
             len,
             packets,
             repeats,
             conflicts,
             ..
-        } => reference::Received {
-            outcome: Outcome::File { len },
-            packets,
-            repeats,
-            conflicts,
-        },
+        } => (Outcome::File { len }, packets, repeats, conflicts),
         Received::Left {
             cells,
             packets,
             repeats,
             conflicts,
             ..
-        } => reference::Received {
-            outcome: Outcome::Left { cells },
-            packets,
-            repeats,
-            conflicts,
-        },
+        } => (Outcome::Left { cells }, packets, repeats, conflicts),
+    };
+    Ok(reference::Received {
+        outcome,
+        packets,
+        repeats,
+        conflicts,
     })
 }
 
