@@ -10,11 +10,11 @@ use Rattle.answer.specs.declared.Fault.the-variants.{Dimension, PacketSi
 use Rattle.answer.specs.declared.PacketFault.{PacketFault}
 use Rattle.answer.specs.declared.PacketFault.the-variants.{CellIndex}
 use Rattle.answer.specs.declared.Refusal.{Refusal}
-use Rattle.answer.specs.declared.Refusal.the-variants.{Plain, Packet, Line}
+use Rattle.answer.specs.declared.Refusal.the-variants.{Plain, Packet, Line, Entry}
 use Rattle.answer.specs.declared.Answer.{Answer}
 use Rattle.answer.specs.declared.Answer.the-variants.{Done, Refused}
 use Rattle.answer.specs.Refusals.{faultNumber, packetFaultNumber}
-use Rattle.answer.specs.Values.{gives, refused, Checked, passes, fails, check, andThen, checked, refusal, answerValue, numberOf, Retired}
+use Rattle.answer.specs.Values.{Value, gives, refused, refused-at, Checked, passes, fails, check, andThen, checked, refusal, answerValue, numberOf, Retired}
 
 -- ---- checks
 
@@ -40,6 +40,7 @@ module _ {A : Type 0} where
   refusal-gives (Plain f) a e = let z : _≡_ {A = ℕ} 0 1 = cc in omega arith
   refusal-gives (Packet f i) a e = let z : _≡_ {A = ℕ} 0 1 = cc in omega arith
   refusal-gives (Line n) a e = let z : _≡_ {A = ℕ} 0 1 = cc in omega arith
+  refusal-gives (Entry n) a e = let z : _≡_ {A = ℕ} 0 1 = cc in omega arith
 
   -- a result means that the checks passed
   pub checked-passes : (c : Checked A) (a : A) → gives a ≡ checked c → c ≡ passes a
@@ -60,6 +61,7 @@ checked-fails (passes a) f e = absurd (refusal-gives f a e)
 checked-fails (fails n) (Plain f) e = (n, refl, ap refused cc)
 checked-fails (fails n) (Packet f i) e = let z : _≡_ {A = ℕ} 0 1 = cc in absurd (omega arith)
 checked-fails (fails n) (Line i) e = let z : _≡_ {A = ℕ} 0 1 = cc in absurd (omega arith)
+checked-fails (fails n) (Entry i) e = let z : _≡_ {A = ℕ} 0 1 = cc in absurd (omega arith)
 
 -- what the first checks refuse, all of them refuse
 pub then-refused : {A B : Type 0} (c : Checked A) (next : A → Checked B) (f : Refusal) → refusal {A = A} f ≡ checked c
@@ -69,6 +71,7 @@ then-refused (passes a) next f e = absurd (refusal-gives f a e)
 then-refused (fails n) next (Plain f) e = ap refused cc
 then-refused (fails n) next (Packet f i) e = let z : _≡_ {A = ℕ} 0 1 = cc in absurd (omega arith)
 then-refused (fails n) next (Line i) e = let z : _≡_ {A = ℕ} 0 1 = cc in absurd (omega arith)
+then-refused (fails n) next (Entry i) e = let z : _≡_ {A = ℕ} 0 1 = cc in absurd (omega arith)
 
 -- what passes all checks has passed the first
 pub then-passed : {A B : Type 0} (c : Checked A) (next : A → Checked B) (b : B) → andThen c next ≡ passes b
@@ -126,26 +129,22 @@ pub packet-fault-number : (f : PacketFault) → packetFaultNumber f ≡ 11
 unfolding packetFaultNumber
 packet-fault-number CellIndex = refl
 
--- no packet's refusal has the number of a line's
-packet-fault-line : (f : PacketFault) → packetFaultNumber f ≡ 17 → ⊥
-packet-fault-line f e = omega (arith, packet-fault-number f)
+-- the refusal with a value
+unfoldable refusalAt : {A : Type 0} → Value A → Refusal
+refusalAt (gives a) = Entry 0
+refusalAt (refused n) = Plain (faultAt n)
+refusalAt (refused-at n i) = cond (eqb n 11) (Packet CellIndex i) (cond (eqb n 17) (Line i) (Entry i))
 
-pub packet-fault-injective : (f g : PacketFault) → packetFaultNumber f ≡ packetFaultNumber g → f ≡ g
-packet-fault-injective CellIndex CellIndex e = refl
+refusal-at : (A : Type 0) (f : Refusal) → refusalAt (refusal {A = A} f) ≡ f
+unfolding refusalAt refusal packetFaultNumber
+refusal-at A (Plain f) = ap Plain (fault-at f)
+refusal-at A (Packet CellIndex i) = refl
+refusal-at A (Line n) = refl
+refusal-at A (Entry n) = refl
 
 -- a value names one refusal
 pub refusal-injective : {A : Type 0} (f g : Refusal) → refusal {A = A} f ≡ refusal {A = A} g → f ≡ g
-unfolding refusal
-refusal-injective (Plain f) (Plain g) e = ap Plain (fault-injective f g cc)
-refusal-injective (Plain f) (Packet g i) e = let z : _≡_ {A = ℕ} 0 1 = cc in absurd (omega arith)
-refusal-injective (Plain f) (Line n) e = let z : _≡_ {A = ℕ} 0 1 = cc in absurd (omega arith)
-refusal-injective (Packet f i) (Plain g) e = let z : _≡_ {A = ℕ} 0 1 = cc in absurd (omega arith)
-refusal-injective (Packet f i) (Packet g j) e =
-    ap₂ Packet (packet-fault-injective f g cc) cc
-refusal-injective (Packet f i) (Line n) e = absurd (packet-fault-line f cc)
-refusal-injective (Line m) (Plain g) e = let z : _≡_ {A = ℕ} 0 1 = cc in absurd (omega arith)
-refusal-injective (Line m) (Packet g j) e = absurd (packet-fault-line g cc)
-refusal-injective (Line m) (Line n) e = ap Line cc
+refusal-injective {A} f g e = sym (refusal-at A f) ∙ ap refusalAt e ∙ refusal-at A g
 
 -- a number that `faultAt` does not give back is no fault's
 fault-none : (n : ℕ) → faultNumber (faultAt n) ≢ n → (f : Fault) → faultNumber f ≢ n
@@ -157,6 +156,7 @@ unfolding Retired refusal numberOf faultNumber faultAt
 retired-12 (Plain f) e = fault-none 12 (λ z. omega arith) f e
 retired-12 (Packet f i) e = omega (arith, packet-fault-number f)
 retired-12 (Line n) e = omega arith
+retired-12 (Entry n) e = omega arith
 
 pub answer-injective : (r s : Answer) → answerValue r ≡ answerValue s → r ≡ s
 unfolding answerValue

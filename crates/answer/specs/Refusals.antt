@@ -27,3 +27,7 @@ packetFaultNumber CellIndex = 11
 -- request P1: "17, the first line that breaks this form, with its number from 1"
 abbrev pub lineFaultNumber : ℕ
 lineFaultNumber = 17
+
+-- request P4: "18, a plan that breaks any of this or has bytes left over, with the offset"
+abbrev pub entryFaultNumber : ℕ
+entryFaultNumber = 18

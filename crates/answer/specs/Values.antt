@@ -3,12 +3,13 @@ use mathlib.Core.Bool.{Bool, cond}
 use mathlib.Core.Logic.{_≢_}
 use Prim.Native.Nat.{ℕ}
 use Rattle.answer.specs.declared.Refusal.{Refusal}
-use Rattle.answer.specs.declared.Refusal.the-variants.{Plain, Packet, Line}
+use Rattle.answer.specs.declared.Refusal.the-variants.{Plain, Packet, Line, Entry}
 use Rattle.answer.specs.declared.Answer.{Answer}
 use Rattle.answer.specs.declared.Answer.the-variants.{Done, Refused}
-use Rattle.answer.specs.Refusals.{faultNumber, packetFaultNumber, lineFaultNumber}
+use Rattle.answer.specs.Refusals.{faultNumber, packetFaultNumber, lineFaultNumber, entryFaultNumber}
 
--- "A refusal names its number and, for a packet, the packet's index from 0"; for a line of a text, its number from 1. What a result carries is the call's own.
+-- "A refusal names its number and, for a packet, the packet's index from 0"; for a line of a text, its number from 1; for a plan, an
+-- offset in its file. What a result carries is the call's own.
 pub data Value (A : Type 0) : Type 0 where
   gives : A → Value A
   refused : (number : ℕ) → Value A
@@ -38,6 +39,7 @@ unfoldable pub refusal : {A : Type 0} → Refusal → Value A
 refusal (Plain f) = refused (faultNumber f)
 refusal (Packet f i) = refused-at (packetFaultNumber f) i
 refusal (Line n) = refused-at lineFaultNumber n
+refusal (Entry at) = refused-at entryFaultNumber at
 
 -- the value of an answer without a result of its own
 unfoldable pub answerValue : Answer → Value Unit

@@ -25,11 +25,13 @@ pub enum PacketFault {
     CellIndex,
 }
 
-// A refusal: of the whole call, of a packet with its index from 0, or of a line of a text with its number from 1.
+// A refusal: of the whole call, of a packet with its index from 0, of a line of a text with its number from 1, or of an entry of a plan with its
+// offset in the file.
 pub enum Refusal {
     Plain(Fault),
     Packet(PacketFault, u64),
     Line(u64),
+    Entry(u64),
 }
 
 // What a call without a result of its own answers.
@@ -61,10 +63,11 @@ pub fn number(f: Refusal) -> u64
         },
         Refusal::Packet(_, _) => 11,
         Refusal::Line(_) => 17,
+        Refusal::Entry(_) => 18,
     }
 }
 
-// The place that a refusal names, the index of a packet or the number of a line; 0 where it names none.
+// The place that a refusal names, the index of a packet, the number of a line or an offset; 0 where it names none.
 pub fn place(f: Refusal) -> u64
     ensures { λ r. ⌜ r ≡ placeOf {A = Unit} (refusal f) ⌝ }
 {
@@ -72,5 +75,6 @@ pub fn place(f: Refusal) -> u64
         Refusal::Plain(_) => 0,
         Refusal::Packet(_, i) => i,
         Refusal::Line(n) => n,
+        Refusal::Entry(at) => at,
     }
 }

@@ -6,7 +6,7 @@ use Prim.Native.Nat.{ℕ, _+_, _^_, _≤_, _<_}
 use native.Mathlib.Omega.{arith}
 use lib.Dec.{leb}
 use lib.ListN.{length, getD}
-use borrow.Author.Tests.{le-leb, lt-leb, leb-true}
+use borrow.Author.Tests.{le-leb, lt-leb, leb-true, leb-false}
 use Rattle.answer.specs.Values.{gives, refused, Checked, passes, fails, check, checked}
 use Rattle.cursor.specs.declared.Cursor.{Cursor}
 use Rattle.cursor.specs.declared.CountRead.{CountRead}
@@ -63,6 +63,11 @@ module _ (p : List ℕ) (c : Cursor) (r : CountRead) (e : countValue r ≡ check
   unfolding count check countValue
   count-cut q next =
       rw (row-refused (leb (c .at + 4) (length p)) 6 6 (word p (c .at), record { at = c .at + 4 }) (rw q at e))
+
+  -- and there is no room for it
+  pub count-short : r ≡ Cut → length p < c .at + 4
+  unfolding count countValue
+  count-short q = leb-false (c .at + 4) (length p) (row-refused (leb (c .at + 4) (length p)) 6 6 (word p (c .at), record { at = c .at + 4 }) (rw q at e))
 
   -- a count fits four bytes
   pub count-lt : ((i : ℕ) → getD p i 0 < 256) → (n : ℕ) (d : Cursor) → r ≡ Count n d → n < 2 ^ 32

@@ -2,7 +2,7 @@
 use mathlib.Core.Path.{_≡_, refl, sym, ap}
 use Prim.Native.Nat.{ℕ, _+_, _*_}
 use Rattle.answer.specs.declared.Refusal.{Refusal}
-use Rattle.answer.specs.declared.Refusal.the-variants.{Plain, Packet, Line}
+use Rattle.answer.specs.declared.Refusal.the-variants.{Plain, Packet, Line, Entry}
 use Rattle.answer.specs.Values.{refusal, numberOf, placeOf}
 use Rattle.receiver.specs.declared.Ending.{Ending}
 use Rattle.receiver.specs.declared.Ending.the-variants.{File, Left, Refused}
@@ -39,6 +39,7 @@ unfolding fileBytes refusal
 no-file (Plain f) = refl
 no-file (Packet f i) = refl
 no-file (Line n) = refl
+no-file (Entry n) = refl
 
 pub refused-file : (e : Ending) (f : Refusal) → e ≡ Refused f → 0 ≡ fileBytes (endingValue e)
 unfolding endingValue

@@ -1,16 +1,15 @@
--- A word tells its value: refusals have the numbers of document 01's table, a result has 0, and only 11 and 17 name a place.
+-- A word tells its value: refusals have the numbers of document 01's table, a result has 0, and only 11, 17 and 18 name a place.
 use mathlib.Core.Path.{_≡_, refl, sym, ap, ap₂, _∙_}
 use mathlib.Core.List.{List}
 use Prim.Native.Nat.{ℕ, _/_, _%_, _≤_, _<_}
 use native.Mathlib.Omega.{arith}
 use Rattle.answer.specs.declared.Fault.{Fault}
 use Rattle.answer.specs.declared.Fault.the-variants.{Dimension, PacketSize, CubeSize, SliceLength, FlagValue, Truncated, HeaderCount, TrailingBytes, SectionCount, Capacity, Contradiction, FileLength, Erasure, Uncorrected}
-use Rattle.answer.specs.declared.PacketFault.{PacketFault}
+use Rattle.answer.specs.declared.PacketFault.the-variants.{CellIndex}
 use Rattle.answer.specs.declared.Refusal.{Refusal}
-use Rattle.answer.specs.declared.Refusal.the-variants.{Plain, Packet, Line}
+use Rattle.answer.specs.declared.Refusal.the-variants.{Plain, Packet, Line, Entry}
 use Rattle.answer.specs.Refusals.{faultNumber, packetFaultNumber}
 use Rattle.answer.specs.Values.{Value, gives, refused, refused-at, refusal, numberOf}
-use Rattle.answer.proofs.Values.{packet-fault-number}
 use Rattle.receiver.specs.declared.Counts.{Counts}
 use Rattle.receiver.specs.Gathering.{Reception, file, left, unfit, index, contradiction, some-left}
 use Rattle.receiver.specs.Receive.{Memory, ReceiveOutcome, unopened, bad-file, opened}
@@ -18,18 +17,24 @@ use Rattle.jibrufath.specs.Packs.{receptionLeft, fileBytes, places}
 use Rattle.jibrufath.specs.Exports.{beside, packed}
 use Rattle.jibrufath.proofs.Words.{packed-number, packed-beside}
 
+-- the numbers with which a refusal names a place
+pub data Named : ℕ → Type 0 where
+  packet : Named 11
+  line : Named 17
+  entry : Named 18
+
 -- the values that answers have
 pub data Tabled {A : Type 0} : Value A → Type 0 where
   result : (a : A) → Tabled (gives a)
   fault : (f : Fault) → Tabled (refused (faultNumber f))
-  packet-fault : (f : PacketFault) (i : ℕ) → Tabled (refused-at (packetFaultNumber f) i)
-  line-fault : (n : ℕ) → Tabled (refused-at 17 n)
+  placed : (n i : ℕ) → Named n → Tabled (refused-at n i)
 
 pub refusal-tabled : {A : Type 0} (f : Refusal) → Tabled {A = A} (refusal f)
-unfolding refusal
+unfolding refusal packetFaultNumber
 refusal-tabled (Plain f) = fault f
-refusal-tabled (Packet f i) = packet-fault f i
-refusal-tabled (Line n) = line-fault n
+refusal-tabled (Packet CellIndex i) = placed 11 i packet
+refusal-tabled (Line n) = placed 17 n line
+refusal-tabled (Entry at) = placed 18 at entry
 
 -- a number of the table that is not 11
 fault-range : (f : Fault) → (1 ≤ faultNumber f) × (faultNumber f ≤ 16) × (faultNumber f ≡ 11 → ⊥)
@@ -49,25 +54,25 @@ fault-range FileLength = (omega arith, omega arith, λ e. omega arith)
 fault-range Erasure = (omega arith, omega arith, λ e. omega arith)
 fault-range Uncorrected = (omega arith, omega arith, λ e. omega arith)
 
-pub tabled-number : {A : Type 0} {v : Value A} → Tabled v → numberOf v ≤ 17
+named-range : {n : ℕ} → Named n → (11 ≤ n) × (n ≤ 18)
+named-range packet = (omega arith, omega arith)
+named-range line = (omega arith, omega arith)
+named-range entry = (omega arith, omega arith)
+
+pub tabled-number : {A : Type 0} {v : Value A} → Tabled v → numberOf v ≤ 18
 unfolding numberOf
 tabled-number (result a) = omega arith
-tabled-number (fault f) = let l : faultNumber f ≤ 17 = omega (arith, fault-range f .1) in l
-tabled-number (packet-fault f i) = let l : packetFaultNumber f ≤ 17 = omega (arith, packet-fault-number f) in l
-tabled-number (line-fault n) = omega arith
+tabled-number (fault f) = let l : faultNumber f ≤ 18 = omega (arith, fault-range f .1) in l
+tabled-number (placed n i t) = named-range t .1
 
 -- neither a result nor a refusal with a place has the number of another refusal
 fault-result : (f : Fault) → 0 ≡ faultNumber f → ⊥
 fault-result f e = omega (arith, fault-range f .0)
 
-packet-result : (f : PacketFault) → 0 ≡ packetFaultNumber f → ⊥
-packet-result f e = omega (arith, packet-fault-number f)
-
-fault-packet : (f : Fault) (g : PacketFault) → faultNumber f ≡ packetFaultNumber g → ⊥
-fault-packet f g e = fault-range f .2 (e ∙ packet-fault-number g)
-
-fault-line : (f : Fault) → faultNumber f ≡ 17 → ⊥
-fault-line f e = omega (arith, fault-range f .1)
+fault-named : (f : Fault) {n : ℕ} → Named n → faultNumber f ≡ n → ⊥
+fault-named f packet e = fault-range f .2 e
+fault-named f line e = omega (arith, fault-range f .1)
+fault-named f entry e = omega (arith, fault-range f .1)
 
 -- where a count tells its result, two values with one number and one count or place are one
 told : {A : Type 0} (count : A → ℕ) {v w : Value A} → ((a b : A) → v ≡ gives a → w ≡ gives b → count a ≡ count b → a ≡ b) → Tabled v → Tabled w
@@ -75,20 +80,13 @@ told : {A : Type 0} (count : A → ℕ) {v w : Value A} → ((a b : A) → v ≡
 unfolding numberOf beside
 told count same (result a) (result b) n e = ap gives (same a b refl refl e)
 told count same (result a) (fault g) n e = absurd (fault-result g n)
-told count same (result a) (packet-fault g j) n e = absurd (packet-result g n)
-told count same (result a) (line-fault j) n e = absurd (omega arith)
+told count same (result a) (placed _ _ t) n e = absurd (omega (arith, named-range t))
 told count same (fault f) (result b) n e = absurd (fault-result f (sym n))
 told count same (fault f) (fault g) n e = ap refused n
-told count same (fault f) (packet-fault g j) n e = absurd (fault-packet f g n)
-told count same (fault f) (line-fault j) n e = absurd (fault-line f n)
-told count same (packet-fault f i) (result b) n e = absurd (packet-result f (sym n))
-told count same (packet-fault f i) (fault g) n e = absurd (fault-packet g f (sym n))
-told count same (packet-fault f i) (packet-fault g j) n e = ap₂ refused-at n e
-told count same (packet-fault f i) (line-fault j) n e = ap₂ refused-at n e
-told count same (line-fault i) (result b) n e = absurd (omega arith)
-told count same (line-fault i) (fault g) n e = absurd (fault-line g (sym n))
-told count same (line-fault i) (packet-fault g j) n e = ap₂ refused-at n e
-told count same (line-fault i) (line-fault j) n e = ap₂ refused-at n e
+told count same (fault f) (placed _ _ t) n e = absurd (fault-named f t n)
+told count same (placed _ _ t) (result b) n e = absurd (omega (arith, named-range t))
+told count same (placed _ _ t) (fault g) n e = absurd (fault-named g t (sym n))
+told count same (placed _ _ _) (placed _ _ _) n e = ap₂ refused-at n e
 
 -- and so two values with one word
 pub word-told : {A : Type 0} (count : A → ℕ) {v w : Value A} → ((a b : A) → v ≡ gives a → w ≡ gives b → count a ≡ count b → a ≡ b)

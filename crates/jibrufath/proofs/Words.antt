@@ -3,7 +3,7 @@ use mathlib.Core.Path.{_≡_, refl, sym, ap, _∙_}
 use Prim.Native.Nat.{ℕ, _+_, _*_, _/_, _%_, _^_, _<_}
 use native.Mathlib.Omega.{arith}
 use Rattle.answer.specs.declared.Refusal.{Refusal}
-use Rattle.answer.specs.declared.Refusal.the-variants.{Plain, Packet, Line}
+use Rattle.answer.specs.declared.Refusal.the-variants.{Plain, Packet, Line, Entry}
 use Rattle.answer.specs.Values.{Value, gives, Checked, passes, fails, checked, refusal, numberOf, placeOf}
 use Rattle.answer.proofs.Values.{refusal-gives}
 use Rattle.jibrufath.specs.Exports.{beside, packed}
@@ -14,12 +14,14 @@ unfolding numberOf refusal
 refusal-number A (Plain f) = refl
 refusal-number A (Packet f i) = refl
 refusal-number A (Line n) = refl
+refusal-number A (Entry n) = refl
 
 pub refusal-beside : {A : Type 0} (count : A → ℕ) (f : Refusal) → beside count (refusal f) ≡ placeOf {A = Unit} (refusal f)
 unfolding beside placeOf refusal
 refusal-beside count (Plain f) = refl
 refusal-beside count (Packet f i) = refl
 refusal-beside count (Line n) = refl
+refusal-beside count (Entry n) = refl
 
 module _ {A : Type 0} (count : A → ℕ) (v : Value A) where
   -- a word of 64 bits holds the value where what comes with the number is below 2^56

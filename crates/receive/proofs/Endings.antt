@@ -10,7 +10,7 @@ use lib.ListN.{length, take, drop}
 use lib.Seq.{take-at, length-take-le}
 use Rattle.field.specs.Field.{reduction}
 use Rattle.answer.specs.declared.Refusal.{Refusal}
-use Rattle.answer.specs.declared.Refusal.the-variants.{Plain, Packet, Line}
+use Rattle.answer.specs.declared.Refusal.the-variants.{Plain, Packet, Line, Entry}
 use Rattle.answer.specs.Values.{Value, gives, refused, refused-at, passes, checked, refusal, numberOf}
 use Rattle.answer.proofs.Values.{checked-fails}
 use Rattle.shape.specs.declared.Shape.{Shape}
@@ -42,6 +42,7 @@ unfolding numberOf refusal ended
 ended-number sh k (Plain f) = refl
 ended-number sh k (Packet f i) = refl
 ended-number sh k (Line n) = refl
+ended-number sh k (Entry n) = refl
 
 module _ (sh : Shape) (k : Counts) (e : Ending) where
   pub ended-refused : (f : Refusal) (n : ℕ) → e ≡ Stopped f → n ≡ numberOf {A = Unit} (refusal f) → Refused n ≡ ended sh k (endingValue e)

@@ -1,0 +1,66 @@
+-- A plan has few entries: closures are numbers of two bytes and ascend, pairs of two such numbers too, and each splice has a first fibre of its own.
+use mathlib.Core.Path.{_≡_}
+use mathlib.Core.List.{List}
+use mathlib.Core.Logic.{inl, inr}
+use Prim.Native.Nat.{ℕ, zero, suc, _+_, _-_, _*_, _≤_, _<_}
+use native.Mathlib.Omega.{arith}
+use lib.ListN.{getD}
+use Rattle.plan_form.specs.Entries.{Entries, closureAt, ClosureRule, closureOf, fibreNumber, Precedes, FibreRule, firstOf, secondOf, SpliceRule}
+use Rattle.plan_form.proofs.Halves.{half-lt}
+
+-- every byte is below 256
+abbrev pub Bytes : List ℕ → Type 0
+Bytes xs = (i : ℕ) → getD xs i 0 < 256
+
+-- ---- closures
+
+module _ (C : Entries) (small : Bytes (C .bytes)) where
+  closure-high : (k : ℕ) → ((j : ℕ) → j < suc k → ClosureRule C j) → k ≤ closureAt C k
+  closure-high zero kept = omega arith
+  closure-high (suc k) kept =
+      let e : suc k - 1 ≡ k = omega arith in
+      let step : closureAt C k < closureAt C (suc k) = rw e at (kept (suc k) (omega arith) .ascending (omega arith)) in
+      omega (arith, closure-high k (λ j l. kept j (omega arith)))
+
+  pub closures-few : (k : ℕ) → ((j : ℕ) → j < k → ClosureRule C j) → k ≤ 65536
+  unfolding closureAt
+  closures-few zero kept = omega arith
+  closures-few (suc k) kept = omega (arith, closure-high k kept, half-lt (C .bytes) (C .at + 2 * k) small)
+
+-- ---- fibres
+
+module _ (C : Entries) (n : ℕ) (F : Entries) (small : Bytes (F .bytes)) where
+  number-lt : (x : ℕ) → fibreNumber F x < 65536
+  unfolding fibreNumber
+  number-lt x = half-lt (F .bytes) (F .at + 4 * x + 2) small
+
+  pair-lt : (x y : ℕ) → Precedes F x y → closureOf F x * 65536 + fibreNumber F x < closureOf F y * 65536 + fibreNumber F y
+  unfolding Precedes
+  pair-lt x y (inl l) = omega (arith, number-lt x)
+  pair-lt x y (inr (e, l)) = omega arith
+
+  pair-high : (k : ℕ) → ((j : ℕ) → j < suc k → FibreRule C n F j) → k ≤ closureOf F k * 65536 + fibreNumber F k
+  pair-high zero kept = omega arith
+  pair-high (suc k) kept =
+      let e : suc k - 1 ≡ k = omega arith in
+      let step : Precedes F k (suc k) = rw e at (kept (suc k) (omega arith) .ascending (omega arith)) in
+      omega (arith, pair-lt k (suc k) step, pair-high k (λ j l. kept j (omega arith)))
+
+  pub fibres-few : (k : ℕ) → ((j : ℕ) → j < k → FibreRule C n F j) → k < 4294967296
+  unfolding closureOf
+  fibres-few zero kept = omega arith
+  fibres-few (suc k) kept = omega (arith, pair-high k kept, kept k (omega arith) .to-288, half-lt (F .bytes) (F .at + 4 * k) small)
+
+-- ---- splices
+
+module _ (F : Entries) (n : ℕ) (S : Entries) where
+  first-high : (k : ℕ) → ((j : ℕ) → j < suc k → SpliceRule F n S j) → k ≤ firstOf S k
+  first-high zero kept = omega arith
+  first-high (suc k) kept =
+      let e : suc k - 1 ≡ k = omega arith in
+      let step : firstOf S k < firstOf S (suc k) = rw e at (kept (suc k) (omega arith) .ascending (omega arith)) in
+      omega (arith, first-high k (λ j l. kept j (omega arith)))
+
+  pub splices-few : (k : ℕ) → ((j : ℕ) → j < k → SpliceRule F n S j) → k ≤ n
+  splices-few zero kept = omega arith
+  splices-few (suc k) kept = omega (arith, first-high k kept, kept k (omega arith) .lower, kept k (omega arith) .fibres)

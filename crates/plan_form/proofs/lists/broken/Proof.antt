@@ -1,0 +1,14 @@
+-- `plan_form::lists::broken` meets its contract.
+use native.Mathlib.Omega.{arith}
+use borrow.Author.Needs.{needs}
+use Rattle.plan_form.proofs.lists.broken.Statement.{statement}
+use Rattle.plan_form.proofs.lists.broken.Tie as tie
+
+returns : tie.Need-returns
+returns c = search needs
+
+pub broken-spec : {M : Type 1} → statement M
+broken-spec =
+    tie.close
+    (tie.spec
+    returns)

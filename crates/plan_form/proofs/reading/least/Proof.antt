@@ -1,0 +1,20 @@
+-- `plan_form::reading::least` meets its contract.
+use native.Mathlib.Omega.{arith}
+use mathlib.Core.Path.{refl}
+use mathlib.Core.Logic.{inl, inr}
+use borrow.Author.Needs.{needs}
+use Rattle.plan_form.proofs.reading.least.Statement.{statement}
+use Rattle.plan_form.proofs.reading.least.Tie as tie
+
+returns : tie.Need-returns
+returns c = (omega arith, omega arith, inl refl)
+
+returns-2 : tie.Need-returns-2
+returns-2 c = (omega arith, omega arith, inr refl)
+
+pub least-spec : {M : Type 1} → statement M
+least-spec =
+    tie.close
+    (tie.spec
+    returns
+    returns-2)
