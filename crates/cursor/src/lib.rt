@@ -3,7 +3,7 @@ ghost use mathlib.Core.Path.{_≡_};
 ghost use Prim.Native.Nat.{_+_, _≤_, _<_};
 ghost use lib.ListN.{length};
 ghost use Rattle.answer.specs.Values.{checked, passes};
-ghost use Rattle.cursor.specs.Steps.{word, count, bytes, countValue, bytesValue};
+ghost use Rattle.cursor.specs.Steps.{word, wordBytes, count, bytes, countValue, bytesValue};
 
 // A place in a pack.
 pub struct Cursor {
@@ -62,6 +62,18 @@ fn word(pack: &[u8], at: usize) -> usize
         + 256 * wide(pack[at + 1])
         + 65536 * wide(pack[at + 2])
         + 16777216 * wide(pack[at + 3])
+}
+
+// A count as its four bytes, low first.
+pub fn count_bytes(n: usize) -> [u8; 4]
+    ensures { λ r. ⌜ r ≡ wordBytes n ⌝ }
+{
+    [
+        (n % 256) as u8,
+        (n / 256 % 256) as u8,
+        (n / 65536 % 256) as u8,
+        (n / 16777216 % 256) as u8,
+    ]
 }
 
 // A byte as a number.

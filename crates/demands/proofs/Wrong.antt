@@ -21,7 +21,8 @@ use Rattle.cube.specs.Cube.{layerLine}
 use Rattle.stopping.specs.Stopping.{number}
 use Rattle.stopping.proofs.Number.{true-or-false, number-in, number-out, number-nil, number-le}
 use Rattle.pack.specs.declared.Section.{Section}
-use Rattle.pack.specs.Packs.{wordBytes, jobPack, airPack, packetOf, everyPacket, padded, dataString}
+use Rattle.cursor.specs.Steps.{wordBytes}
+use Rattle.pack.specs.Packs.{jobPack, airPack, packetOf, everyPacket, padded, dataString}
 use Rattle.pack.specs.Packets.{packetNo, sourceOf}
 use Rattle.pack.proofs.Written.{air-read, job-read, everyPacket-length, everyPacket-at}
 use Rattle.pack.specs.Reading.{headerFor}

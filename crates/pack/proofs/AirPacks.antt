@@ -18,8 +18,8 @@ use Rattle.span.proofs.Stretches.{stretch-end}
 use Rattle.cursor.specs.declared.Cursor.{Cursor}
 use Rattle.pack.specs.declared.Section.{Section}
 use Rattle.pack.specs.declared.Header.{Header}
-use Rattle.cursor.specs.Steps.{word}
-use Rattle.pack.specs.Packs.{wordBytes, shapeBytes, Packet, packetBytes, packets, airPack, airHead, upFrom, airSize}
+use Rattle.cursor.specs.Steps.{word, wordBytes}
+use Rattle.pack.specs.Packs.{shapeBytes, Packet, packetBytes, packets, airPack, airHead, upFrom, airSize}
 use Rattle.pack.specs.Reading.{shapeAt, headerFor, headed, headerOf, packetSize, airBehind, airOf}
 use Rattle.pack.specs.Packets.{packetAt, packetIn, packetsIn, packetNo, Named, Stands}
 use Rattle.pack.proofs.Sound.{count-passed, bytes-passed, end-passed, air-sound}

@@ -9,8 +9,8 @@ use lib.ListN.{length, getD, take, drop, replicate, getD-replicate, List·getD-a
 use lib.Seq.{ext-getD, getD-append-add, take-at}
 use Rattle.shape.specs.declared.Shape.{Shape}
 use Rattle.shape.specs.Shapes.{Valid, cells, capacity}
-use Rattle.cursor.specs.Steps.{word}
-use Rattle.pack.specs.Packs.{wordBytes, padded, dataString}
+use Rattle.cursor.specs.Steps.{word, wordBytes}
+use Rattle.pack.specs.Packs.{padded, dataString}
 use Rattle.pack.proofs.Written.{wordBytes-value, dataString-length}
 
 pub capacity-le : (sh : Shape) → Valid sh → capacity sh ≤ 268435456

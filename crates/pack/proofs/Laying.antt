@@ -14,7 +14,8 @@ use Rattle.shape.specs.Shapes.{Valid, cells}
 use Rattle.shape.proofs.Geometry.{third-lt}
 use Rattle.cursor.specs.declared.Cursor.{Cursor}
 use Rattle.pack.specs.declared.Section.{Section}
-use Rattle.pack.specs.Packs.{wordBytes, shapeBytes, packetBytes, packets, airPack, airHead, packetOf, upFrom, firstPackets, everyPacket, packSize, padded}
+use Rattle.cursor.specs.Steps.{wordBytes}
+use Rattle.pack.specs.Packs.{shapeBytes, packetBytes, packets, airPack, airHead, packetOf, upFrom, firstPackets, everyPacket, packSize, padded}
 use Rattle.pack.specs.Reading.{fileOf}
 use Rattle.pack.specs.Writing.{Laid, CoordinatesOutcome, coordinates-written, coordinates-outside}
 use Rattle.pack.specs.Inner.Writing.{coordinates}
@@ -39,7 +40,7 @@ pub put-three : (s : List ℕ) (at a b c : ℕ) → at + 3 ≤ length s → Put 
 put-three s at a b c h =
     put-more (at + 2) c (put-more (at + 1) b (put-one s at a (omega arith)) refl (omega arith)) refl (omega arith)
 
-pub put-four : (s : List ℕ) (at a b c d : ℕ) → at + 4 ≤ length s
+put-four : (s : List ℕ) (at a b c d : ℕ) → at + 4 ≤ length s
     → Put s at (a ∷ b ∷ c ∷ d ∷ []) (set (set (set (set s at a) (at + 1) b) (at + 2) c) (at + 3) d)
 put-four s at a b c d h = put-more (at + 3) d (put-three s at a b c (omega arith)) refl (omega arith)
 

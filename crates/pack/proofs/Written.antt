@@ -18,8 +18,8 @@ use Rattle.span.proofs.Stretches.{stretch-end}
 use Rattle.cursor.specs.declared.Cursor.{Cursor}
 use Rattle.pack.specs.declared.Section.{Section}
 use Rattle.pack.specs.declared.Header.{Header}
-use Rattle.cursor.specs.Steps.{word}
-use Rattle.pack.specs.Packs.{wordBytes, shapeBytes, Packet, packetBytes, packets, jobPack, airPack, airHead, packetOf, upFrom, firstPackets, everyPacket, airSize, packSize, padded, dataString}
+use Rattle.cursor.specs.Steps.{word, wordBytes}
+use Rattle.pack.specs.Packs.{shapeBytes, Packet, packetBytes, packets, jobPack, airPack, airHead, packetOf, upFrom, firstPackets, everyPacket, airSize, packSize, padded, dataString}
 use Rattle.cursor.specs.Steps.{count, bytes}
 use Rattle.pack.specs.Reading.{end, shapeAt, headerFor, headed, headerOf, jobBehind, jobOf, packetSize, airBehind, airOf, fileOf}
 use Rattle.pack.specs.Packets.{packetAt, packetNo, source, sourceOf}

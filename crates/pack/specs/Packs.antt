@@ -2,12 +2,9 @@
 use mathlib.Core.List.{List, [], _∷_, _++_, map}
 use Prim.Native.Nat.{ℕ, zero, suc, _+_, _-_, _*_, _/_, _%_}
 use lib.ListN.{length, take, drop, replicate}
+use Rattle.cursor.specs.Steps.{wordBytes}
 use Rattle.shape.specs.declared.Shape.{Shape}
 use Rattle.shape.specs.Shapes.{cells, capacity}
-
--- a number as four bytes, low first
-unfoldable pub wordBytes : ℕ → List ℕ
-wordBytes n = n % 256 ∷ n / 256 % 256 ∷ n / 65536 % 256 ∷ n / 16777216 % 256 ∷ []
 
 -- "Section 1, count 5: L1, L2, L3, then W in two bytes, low first."
 unfoldable pub shapeBytes : Shape → List ℕ

@@ -7,6 +7,7 @@ use answer::Answer;
 use answer::Fault;
 use answer::Refusal;
 use cursor::Cursor;
+use cursor::count_bytes;
 use shape::Measured;
 use shape::Shape;
 ghost use mathlib.Core.Path.{_≡_};
@@ -16,7 +17,8 @@ ghost use Rattle.answer.specs.Values.{answerValue, checked};
 ghost use Rattle.span.specs.Decision.{Decides};
 ghost use Rattle.span.specs.Span.{Put};
 ghost use Rattle.shape.specs.Shapes.{Valid, cells};
-ghost use Rattle.pack.specs.Packs.{wordBytes, shapeBytes, packetBytes, packets, packetOf, everyPacket, airPack, packSize};
+ghost use Rattle.cursor.specs.Steps.{wordBytes};
+ghost use Rattle.pack.specs.Packs.{shapeBytes, packetBytes, packets, packetOf, everyPacket, airPack, packSize};
 ghost use Rattle.pack.specs.Writing.{sizeChecked, sizeValue, airChecked, AirOutcome, DataOutcome, Laid};
 ghost use Rattle.pack.specs.Inner.Writing.{coordinates};
 
@@ -103,10 +105,8 @@ pub(crate) fn put_count(c: Cursor, out: &mut [u8], n: usize) -> Cursor
     ensures { λ r. ⌜ Laid (now (out .entry)) c (wordBytes n) (now (out .exit)) r ⌝ }
 {
     let at = c.at;
-    out[at] = (n % 256) as u8;
-    out[at + 1] = (n / 256 % 256) as u8;
-    out[at + 2] = (n / 65536 % 256) as u8;
-    out[at + 3] = (n / 16777216 % 256) as u8;
+    let bytes = count_bytes(n);
+    span::copy(&bytes, out, 0, at, 4);
     Cursor { at: at + 4 }
 }
 

@@ -12,9 +12,9 @@ use Rattle.cursor.specs.declared.CountRead.{CountRead}
 use Rattle.cursor.specs.declared.CountRead.the-variants.{Count}
 use Rattle.cursor.specs.Steps.{word, count, countValue}
 use Rattle.cursor.proofs.Steps.{count-known}
-use Rattle.plan_form.specs.declared.PlanMeasure.the-variants.{Measured}
+use Rattle.plan_form.specs.declared.PlanRead.the-variants.{Counted}
 use Rattle.plan_form.specs.Entries.{entries, ClosureRule, FibreRule, SpliceRule}
-use Rattle.plan_form.specs.Form.{SoundBefore, Broken, IsPlan, FormOutcome, formed, planCounts, planWith, closuresIn, fibresIn, splicesIn, planIn, measureValue}
+use Rattle.plan_form.specs.Form.{SoundBefore, Broken, IsPlan, FormOutcome, formed, planCounts, planWith, closuresIn, fibresIn, splicesIn, planIn, planValue}
 use Rattle.plan_form.specs.Inner.Checks.{First, FibresKept}
 use Rattle.plan_form.proofs.Judging.{closures-keep, fibres-fit, closures-broken, closures-passed, fibres-broken, fibres-passed, splices-broken, bytes-left-over, plan-formed}
 
@@ -114,6 +114,6 @@ module _ (f : List ℕ) where
 
     -- the counts as they were read are the plan's
     pub plan-measured : (c : ℕ) → c ≡ closuresIn f → s ≤ first → len ≤ at + 8 * first
-        → FormOutcome (planIn f) len (planIn f .counts) (measureValue (Measured (planCounts c n s)))
-    unfolding measureValue planIn planWith
+        → FormOutcome (planIn f) len (planIn f .counts) (planValue (Counted (planCounts c n s)))
+    unfolding planValue planIn planWith
     plan-measured c ec l m = rw (ec, en, es) (formed (plan-in l m))

@@ -7,11 +7,11 @@ use Rattle.answer.specs.declared.Answer.{Answer}
 use Rattle.answer.specs.declared.Answer.the-variants.{Refused as AnswerRefused}
 use Rattle.answer.specs.declared.Refusal.the-variants.{Entry}
 use Rattle.answer.specs.Values.{refusal, answerValue}
-use Rattle.plan_form.specs.declared.PlanMeasure.{PlanMeasure}
-use Rattle.plan_form.specs.declared.PlanMeasure.the-variants.{Refused}
+use Rattle.plan_form.specs.declared.PlanRead.{PlanRead}
+use Rattle.plan_form.specs.declared.PlanRead.the-variants.{Refused}
 use Rattle.plan_form.specs.declared.PlanCounts.{PlanCounts}
 use Rattle.plan_form.specs.Entries.{ClosureRule, FibreRule, SpliceRule}
-use Rattle.plan_form.specs.Form.{Plan, Part, closure-count, closure, fibre-count, fibre, splice-count, splice, start, size, planEnd, Has, Rule, Sound, SoundBefore, Broken, part-broken, left-over, IsPlan, FormOutcome, formed, broken, measureValue}
+use Rattle.plan_form.specs.Form.{Plan, Part, closure-count, closure, fibre-count, fibre, splice-count, splice, start, size, planEnd, Has, Rule, Sound, SoundBefore, Broken, part-broken, left-over, IsPlan, FormOutcome, formed, broken, planValue}
 use Rattle.plan_form.specs.Inner.Checks.{First, FibresKept}
 use Rattle.plan_form.proofs.Soundness.{closures-sound, fibres-sound, splices-sound, all-sound}
 use Rattle.plan_form.proofs.Ascending.{fibres-kept}
@@ -127,8 +127,8 @@ module _ (P : Plan) (len : ℕ) where
 
   -- ---- the answers
 
-  pub measure-broken : (r : PlanMeasure) (a : PlanCounts) (at at′ : ℕ) → r ≡ Refused (Entry at) → at ≡ at′ → Broken P len at′ → FormOutcome P len a (measureValue r)
-  unfolding measureValue refusal
+  pub measure-broken : (r : PlanRead) (a : PlanCounts) (at at′ : ℕ) → r ≡ Refused (Entry at) → at ≡ at′ → Broken P len at′ → FormOutcome P len a (planValue r)
+  unfolding planValue refusal
   measure-broken r a at at′ e same b = rw e (broken at (rw same b))
 
   pub check-broken : (r : Answer) (at at′ : ℕ) → r ≡ AnswerRefused (Entry at) → at ≡ at′ → Broken P len at′ → FormOutcome P len tt (answerValue r)

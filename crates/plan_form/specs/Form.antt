@@ -4,11 +4,10 @@ use mathlib.Core.List.{List, _++_}
 use Prim.Native.Nat.{ℕ, _+_, _*_, _/_, _≤_, _<_}
 use lib.ListN.{length, take, drop}
 use Rattle.answer.specs.Values.{Value, gives, refused-at, refusal}
-use Rattle.cursor.specs.Steps.{word}
-use Rattle.pack.specs.Packs.{wordBytes}
+use Rattle.cursor.specs.Steps.{word, wordBytes}
 use Rattle.plan_form.specs.declared.PlanCounts.{PlanCounts}
-use Rattle.plan_form.specs.declared.PlanMeasure.{PlanMeasure}
-use Rattle.plan_form.specs.declared.PlanMeasure.the-variants.{Measured, Refused}
+use Rattle.plan_form.specs.declared.PlanRead.{PlanRead}
+use Rattle.plan_form.specs.declared.PlanRead.the-variants.{Counted, Refused}
 use Rattle.plan_form.specs.Entries.{Entries, entries, ClosureRule, FibreRule, SpliceRule}
 
 -- A plan as it is read: where the entries of each section stand, and how many they are.
@@ -123,10 +122,10 @@ splicesIn f = word f (8 + 2 * closuresIn f + 4 * fibresIn f)
 unfoldable pub planIn : List ℕ → Plan
 planIn f = planWith f (closuresIn f) (fibresIn f) (splicesIn f)
 
--- what `measure_plan` answers
-unfoldable pub measureValue : PlanMeasure → Value PlanCounts
-measureValue (Measured n) = gives n
-measureValue (Refused f) = refusal f
+-- what a call answers that reads a plan
+unfoldable pub planValue : PlanRead → Value PlanCounts
+planValue (Counted n) = gives n
+planValue (Refused f) = refusal f
 
 -- ---- a plan in three lists
 

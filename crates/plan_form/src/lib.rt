@@ -11,7 +11,7 @@ use answer::Answer;
 use answer::Refusal;
 ghost use Rattle.answer.specs.Values.{answerValue};
 ghost use lib.ListN.{length};
-ghost use Rattle.plan_form.specs.Form.{FormOutcome, planEnd, planIn, measureValue, lists, countsOf, planOf};
+ghost use Rattle.plan_form.specs.Form.{FormOutcome, planEnd, planIn, planValue, lists, countsOf, planOf};
 
 // How many entries each section of a plan has.
 pub struct PlanCounts {
@@ -20,15 +20,15 @@ pub struct PlanCounts {
     pub splices: usize,
 }
 
-// The counts of a plan, or the first byte that breaks the form.
-pub enum PlanMeasure {
-    Measured(PlanCounts),
+// The counts of a plan, or why there is none.
+pub enum PlanRead {
+    Counted(PlanCounts),
     Refused(Refusal),
 }
 
 // The counts of the plan that a file holds, or 18.
-pub fn measure_plan(file: &[u8]) -> PlanMeasure
-    ensures { λ r. ⌜ FormOutcome (planIn (now (file .entry))) (length (now (file .entry))) (planIn (now (file .entry)) .counts) (measureValue r) ⌝ }
+pub fn measure_plan(file: &[u8]) -> PlanRead
+    ensures { λ r. ⌜ FormOutcome (planIn (now (file .entry))) (length (now (file .entry))) (planIn (now (file .entry)) .counts) (planValue r) ⌝ }
 {
     reading::measure(file)
 }

@@ -1,6 +1,6 @@
 // The plan in a file, section by section: entries are judged up to the first that is cut, and a section once those before it are sound.
 use crate::PlanCounts;
-use crate::PlanMeasure;
+use crate::PlanRead;
 use crate::closures;
 use crate::fibres;
 use crate::sections::Section;
@@ -13,12 +13,12 @@ ghost use mathlib.Core.Logic.{_⊎_};
 ghost use Prim.Native.Nat.{_+_, _*_, _≤_};
 ghost use lib.ListN.{length};
 ghost use Rattle.answer.specs.declared.Refusal.the-variants.{Entry};
-ghost use Rattle.plan_form.specs.declared.PlanMeasure.the-variants.{Refused};
-ghost use Rattle.plan_form.specs.Form.{FormOutcome, SoundBefore, planIn, closuresIn, fibresIn, measureValue};
+ghost use Rattle.plan_form.specs.declared.PlanRead.the-variants.{Refused};
+ghost use Rattle.plan_form.specs.Form.{FormOutcome, SoundBefore, planIn, closuresIn, fibresIn, planValue};
 
 // The closures, and what is behind them.
-pub(crate) fn measure(file: &[u8]) -> PlanMeasure
-    ensures { λ r. ⌜ FormOutcome (planIn (now (file .entry))) (length (now (file .entry))) (planIn (now (file .entry)) .counts) (measureValue r) ⌝ }
+pub(crate) fn measure(file: &[u8]) -> PlanRead
+    ensures { λ r. ⌜ FormOutcome (planIn (now (file .entry))) (length (now (file .entry))) (planIn (now (file .entry)) .counts) (planValue r) ⌝ }
 {
     let read = Cursor { at: 0 }.count(file);
     let CountRead::Count(count, next) = read else {
@@ -46,10 +46,10 @@ pub(crate) fn measure(file: &[u8]) -> PlanMeasure
 }
 
 // The fibres, where everything before them is sound, and what is behind them.
-fn measure_fibres(file: &[u8], c: Section) -> PlanMeasure
+fn measure_fibres(file: &[u8], c: Section) -> PlanRead
     requires { ⌜ (c .at ≡ 4) × (c .count ≡ closuresIn (now file)) × (4 + 2 * closuresIn (now file) ≤ length (now file))
         × SoundBefore (planIn (now file)) (length (now file)) (4 + 2 * closuresIn (now file)) ⌝ }
-    ensures { λ r. ⌜ FormOutcome (planIn (now (file .entry))) (length (now (file .entry))) (planIn (now (file .entry)) .counts) (measureValue r) ⌝ }
+    ensures { λ r. ⌜ FormOutcome (planIn (now (file .entry))) (length (now (file .entry))) (planIn (now (file .entry)) .counts) (planValue r) ⌝ }
 {
     let behind = c.at + 2 * c.count;
     let read = Cursor { at: behind }.count(file);
@@ -81,11 +81,11 @@ fn measure_fibres(file: &[u8], c: Section) -> PlanMeasure
 }
 
 // The splices, where everything before them is sound, and the file's end.
-fn measure_splices(file: &[u8], closures: usize, f: Section) -> PlanMeasure
+fn measure_splices(file: &[u8], closures: usize, f: Section) -> PlanRead
     requires { ⌜ (closures ≡ closuresIn (now file)) × (f .at ≡ 8 + 2 * closuresIn (now file)) × (f .count ≡ fibresIn (now file))
         × (8 + 2 * closuresIn (now file) + 4 * fibresIn (now file) ≤ length (now file))
         × SoundBefore (planIn (now file)) (length (now file)) (8 + 2 * closuresIn (now file) + 4 * fibresIn (now file)) ⌝ }
-    ensures { λ r. ⌜ FormOutcome (planIn (now (file .entry))) (length (now (file .entry))) (planIn (now (file .entry)) .counts) (measureValue r) ⌝ }
+    ensures { λ r. ⌜ FormOutcome (planIn (now (file .entry))) (length (now (file .entry))) (planIn (now (file .entry)) .counts) (planValue r) ⌝ }
 {
     let behind = f.at + 4 * f.count;
     let read = Cursor { at: behind }.count(file);
@@ -107,7 +107,7 @@ fn measure_splices(file: &[u8], closures: usize, f: Section) -> PlanMeasure
     if first < count || end < file.len() {
         return broken(end);
     }
-    PlanMeasure::Measured(PlanCounts {
+    PlanRead::Counted(PlanCounts {
         closures: closures,
         fibres: f.count,
         splices: count,
@@ -122,8 +122,8 @@ fn least(count: usize, room: usize) -> usize
 }
 
 // 18, with the byte at which the form is broken.
-fn broken(at: usize) -> PlanMeasure
+fn broken(at: usize) -> PlanRead
     ensures { λ r. ⌜ r ≡ Refused (Entry at) ⌝ }
 {
-    PlanMeasure::Refused(Refusal::Entry(at as u64))
+    PlanRead::Refused(Refusal::Entry(at as u64))
 }

@@ -1,6 +1,7 @@
 -- `pack::air::put_head` meets its contract. Assumes nothing.
 use native.Mathlib.Omega.{arith}
-use Rattle.pack.specs.Packs.{wordBytes, shapeBytes, airHead}
+use Rattle.cursor.specs.Steps.{wordBytes}
+use Rattle.pack.specs.Packs.{shapeBytes, airHead}
 use Rattle.pack.proofs.Laying.{laid-laid}
 use borrow.Author.Needs.{needs}
 use Rattle.pack.proofs.air.put_head.Statement.{statement}

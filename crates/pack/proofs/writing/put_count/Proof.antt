@@ -1,71 +1,41 @@
 -- `pack::writing::put_count` meets its contract. Assumes nothing.
-use mathlib.Core.Path.{refl}
 use native.Mathlib.Omega.{arith}
-use lib.ListN.{length-set}
-use Rattle.pack.specs.Packs.{wordBytes}
-use Rattle.pack.proofs.Laying.{put-four}
+use mathlib.Core.Path.{refl}
+use Rattle.cursor.specs.Steps.{wordBytes}
 use borrow.Author.Needs.{needs}
 use Rattle.pack.proofs.writing.put_count.Statement.{statement}
 use Rattle.pack.proofs.writing.put_count.Tie as tie
 
-cast-out : tie.Need-cast-out
-cast-out c = search needs
+count-bytes-requires : tie.Need-count-bytes-requires
+count-bytes-requires c κs = search needs
 
-slice-write-out : tie.Need-slice-write-out
-slice-write-out c = search needs
+slice-aggregate-copy : tie.Need-slice-aggregate-copy
+slice-aggregate-copy c = search needs
 
-cast-out-2 : tie.Need-cast-out-2
-cast-out-2 c = search needs
+copy-requires : tie.Need-copy-requires
+copy-requires c κs = search needs
 
-add-out : tie.Need-add-out
-add-out c = search needs
-
-slice-write-out-2 : tie.Need-slice-write-out-2
-slice-write-out-2 c = simp length-set (omega arith)
-
-cast-out-3 : tie.Need-cast-out-3
-cast-out-3 c = search needs
-
-add-out-2 : tie.Need-add-out-2
-add-out-2 c = search needs
-
-slice-write-out-3 : tie.Need-slice-write-out-3
-slice-write-out-3 c = simp length-set (omega arith)
-
-cast-out-4 : tie.Need-cast-out-4
-cast-out-4 c = search needs
-
-add-out-3 : tie.Need-add-out-3
-add-out-3 c = search needs
-
-slice-write-out-4 : tie.Need-slice-write-out-4
-slice-write-out-4 c = simp length-set (omega arith)
-
-add-t5 : tie.Need-add-t5
-add-t5 c = search needs
+add-t12 : tie.Need-add-t12
+add-t12 c = search needs
 
 same-length : tie.Need-same-length
 same-length c = search needs
 
 returns : tie.Need-returns
 unfolding wordBytes
-returns c = record { put = put-four _ _ _ _ _ _ (c .pre); behind = refl }
+returns c =
+    let copied = c .before .before in
+    let counted = copied .before .before .before in
+    let bytes = counted .count-bytes .ensures in
+    record { put = rw bytes at (copied .copy .ensures .done (rw bytes (omega arith), counted .before .before .pre) .1); behind = refl }
 
 pub put-count-spec : {M : Type 1} → statement M
 put-count-spec =
     tie.close
     (tie.spec
-    cast-out
-    slice-write-out
-    cast-out-2
-    add-out
-    slice-write-out-2
-    cast-out-3
-    add-out-2
-    slice-write-out-3
-    cast-out-4
-    add-out-3
-    slice-write-out-4
-    add-t5
+    count-bytes-requires
+    slice-aggregate-copy
+    copy-requires
+    add-t12
     same-length
     returns)

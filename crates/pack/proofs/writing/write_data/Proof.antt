@@ -2,7 +2,7 @@
 use mathlib.Core.Path.{refl}
 use native.Mathlib.Omega.{arith}
 use Rattle.span.proofs.Decision.{decides-refuted, decides-proved, cases-done, cases-refused}
-use Rattle.pack.specs.Packs.{wordBytes}
+use Rattle.cursor.specs.Steps.{wordBytes}
 use Rattle.pack.proofs.Laying.{part-length, data-laid}
 use borrow.Author.Needs.{needs}
 use Rattle.pack.proofs.writing.write_data.Statement.{statement}

@@ -1,0 +1,2 @@
+-- What only the crate's own functions promise each other, one file a module.
+pub mod Answers
