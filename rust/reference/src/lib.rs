@@ -2,7 +2,8 @@
 //!
 //! It is made to be compared with, so it takes other ways than the library where it can: log tables for
 //! the field, linear equations for encoding and filling small cubes, another order of axes for encoding
-//! large ones, a work list for filling them, a map of the copies that were heard of each cell, texts split into words.
+//! large ones, a work list for filling them, a map of the copies that were heard of each cell, texts split into words,
+//! plans judged by sets of what stands before each entry.
 //! Clarity comes before speed.
 //!
 //! Each operation answers `Err(number)` with the number of document 01's table, and leaves lent memory
@@ -14,6 +15,7 @@ pub mod fill;
 pub mod linear;
 pub mod mend;
 pub mod pack;
+pub mod plan;
 pub mod programs;
 pub mod random;
 pub mod receive;
@@ -27,6 +29,7 @@ pub use encode::{encode, extract, is_code_cube};
 pub use fill::fill;
 pub use mend::{mend, mend_axis};
 pub use pack::needs;
+pub use plan::{measure_plan, read_plan, receive_plan, write_plan};
 pub use receive::{Outcome, Received, Refusal, receive_pack};
 pub use scan::{Scan, scan, scanned};
 pub use shape::Shape;

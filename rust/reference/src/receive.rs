@@ -25,7 +25,7 @@ pub enum Outcome {
     Left { cells: usize },
 }
 
-/// The number of a refusal and the place that it names: with 11 a packet's index, with 17 a line's number.
+/// The number of a refusal and the place that it names: with 11 a packet's index, with 17 a line's number, with 18 an offset.
 #[derive(Clone, Copy, Debug, PartialEq, Eq)]
 pub struct Refusal {
     pub number: u8,
