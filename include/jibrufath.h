@@ -19,6 +19,7 @@
  *   output    jibrufath_pack_bytes: 17 + cells * (3 + w)
  *   text      jibrufath_text_bytes, of the pack whose text is written
  *   air       where a text is read, jibrufath_text_pack_bytes: 17 + packets * (3 + w)
+ *   lists     of a plan that is read, at least 2 bytes a closure, 4 a fibre, 8 a splice: alone among lent slices they may be longer
  *
  *   In all a writer is lent w * cells + 17 + cells * (3 + w) bytes, and a receiver w * cells + cells + capacity - 4. jibrufath_needs
  *   gives the sizes that a pack asks for. The tests encode cubes up to the largest: 128 by 128 by 16 cells of 1,024 bytes, which is
@@ -35,11 +36,12 @@
  * Answers
  *   Every call but those of the field answers with 64 bits. The low byte is a number of the table below, JIBRUFATH_OK or a refusal.
  *   What stands above it is a count with JIBRUFATH_OK (cells left, a size, or 1 for a code cube), the packet's index from 0 with
- *   refusal 11, and the line's number from 1 with refusal 17; it is 0 with all others. jibrufath_number and jibrufath_count take an
- *   answer apart.
+ *   refusal 11, the line's number from 1 with refusal 17, and an offset in the plan from 0 with refusal 18; it is 0 with all others.
+ *   jibrufath_number and jibrufath_count take an answer apart.
  *
  *   A call makes its checks in the order in which its comment names them, and answers with the first that fails. The checks of a
- *   shape are 1, 2, 3, in this order. Refusals 1 to 11, 15 and 17 change no lent byte, and no refusal changes the file buffer. */
+ *   shape are 1, 2, 3, in this order. Refusals 1 to 11, 15 and 17 change no lent byte, and no refusal changes the file buffer, but for
+ *   jibrufath_receive_plan, which has opened the file where it refuses the plan in it. */
 #ifndef JIBRUFATH_H
 #define JIBRUFATH_H
 
@@ -47,7 +49,7 @@
 
 /* The version of this interface. The major number grows where a program must be changed or compiled again. */
 #define JIBRUFATH_VERSION_MAJOR 3
-#define JIBRUFATH_VERSION_MINOR 0
+#define JIBRUFATH_VERSION_MINOR 1
 
 #ifdef __cplusplus
 extern "C" {
@@ -59,7 +61,7 @@ enum jibrufath_answer {
     JIBRUFATH_DIMENSION = 1,          /* a length is not 3 to 255, an axis not 1 to 3, or no such line */
     JIBRUFATH_PACKET_SIZE = 2,        /* w is not 1 to 1,024 */
     JIBRUFATH_CUBE_SIZE = 3,          /* w * cells is above 268,435,456 */
-    JIBRUFATH_SLICE_LENGTH = 4,       /* a lent slice has not the exact length */
+    JIBRUFATH_SLICE_LENGTH = 4,       /* a lent slice has not the exact length; a list is too short, or ends inside an entry */
     JIBRUFATH_FLAG_VALUE = 5,         /* a flag is neither 0 nor 1 */
     JIBRUFATH_TRUNCATED = 6,          /* the pack ends inside a count or a section */
     JIBRUFATH_HEADER_COUNT = 7,       /* the count of section 1 is not 5 */
@@ -72,7 +74,8 @@ enum jibrufath_answer {
     JIBRUFATH_FILE_LENGTH = 14,       /* the data string holds no file: too long, or bytes behind it that are not 00h */
     JIBRUFATH_ERASURE = 15,           /* a flag is 1, and mending takes only whole cubes */
     JIBRUFATH_UNCORRECTED = 16,       /* what mending leaves is not a code cube */
-    JIBRUFATH_LINE = 17               /* a line of a text breaks the form; the count is the line's number from 1 */
+    JIBRUFATH_LINE = 17,              /* a line of a text breaks the form; the count is the line's number from 1 */
+    JIBRUFATH_ENTRY = 18              /* a plan breaks a rule, is cut or has bytes left over; the count is the offset */
 };
 
 /* The number of an answer, and its count. */
@@ -221,6 +224,88 @@ uint64_t jibrufath_text_pack_bytes(
 uint64_t jibrufath_read_text(
     const uint8_t *text, uint64_t text_len,
     uint8_t *air, uint64_t air_len);
+
+/* Plans. A splice plan is a file of three sections in this order, each behind its count of entries in four bytes, and nothing behind
+ * them. All numbers are low byte first:
+ *   closures  a number in 2 bytes, strictly ascending
+ *   fibres    the number of a closure that is listed, in 2 bytes, then the fibre's own, 1 to 288, in 2; strictly ascending by both
+ *   splices   the indexes of two fibres, from 0, in 4 bytes each: both in the same closure, the first lower; first indexes strictly
+ *             ascending, and each fibre in at most one splice
+ * A list of entries is their bytes as they stand in a file: 2 a closure, 4 a fibre, 8 a splice.
+ *
+ * Entries are judged in the order of the file, each once it is whole. The offset with refusal 18 counts from the file's first byte:
+ * it is that of the first entry or count that breaks a rule or is cut, or of the first byte left over. Where nothing of an entry or a
+ * count is there, that is the file's length. No count breaks a rule by itself: entries are judged up to the one that is cut.
+ *
+ * What jibrufath_write_plan writes, jibrufath_read_plan reads back to the same lists; what jibrufath_read_plan reads,
+ * jibrufath_write_plan writes back to the same bytes. */
+
+/* The places in entries. */
+enum jibrufath_entry_place {
+    JIBRUFATH_CLOSURES = 0,
+    JIBRUFATH_FIBRES = 1,
+    JIBRUFATH_SPLICES = 2,
+    JIBRUFATH_ENTRIES = 3
+};
+
+/* Writes a plan's file.
+ *
+ * closures, fibres, splices and their lengths; output, 12 bytes and those of the three lists. OK: output is the file; every byte of it
+ * is written, and what it held does not matter. A refusal changes nothing.
+ *
+ * Checks: 4, also of a list that ends inside an entry; 18, with the offset that the entry would have in the file. */
+uint64_t jibrufath_write_plan(
+    const uint8_t *closures, uint64_t closures_len,
+    const uint8_t *fibres, uint64_t fibres_len,
+    const uint8_t *splices, uint64_t splices_len,
+    uint8_t *output, uint64_t output_len);
+
+/* Says how many entries a plan has, and so how long its lists are.
+ *
+ * file and its length, any bytes; entries, which is an array of 3: the closures, fibres and splices. All 3 are written by every call,
+ * and all are 0 with a refusal. Checks: 18. */
+uint64_t jibrufath_measure_plan(
+    const uint8_t *file, uint64_t file_len,
+    uint64_t entries[3]);
+
+/* Reads a plan's file to lists.
+ *
+ * file and its length, any bytes; closures, fibres, splices, each at least as long as the entries of its section; entries, as in
+ * jibrufath_measure_plan. OK: each list begins with the entries of its section, and the rest of it is kept. A refusal changes no list.
+ *
+ * Checks: 18; 4 of a list that is too short. */
+uint64_t jibrufath_read_plan(
+    const uint8_t *file, uint64_t file_len,
+    uint8_t *closures, uint64_t closures_len,
+    uint8_t *fibres, uint64_t fibres_len,
+    uint8_t *splices, uint64_t splices_len,
+    uint64_t entries[3]);
+
+/* Receives an air pack whose file is a plan, and shows the plan where no cell is left.
+ *
+ * air, cube, flags, file and counts are those of jibrufath_receive_pack, and the lists and entries those of jibrufath_read_plan. OK
+ * with count 0: the plan is shown, and each list begins with the entries of its section. OK with another count: so many cells are
+ * left, and entries are 0. Counts are as jibrufath_receive_pack gives them; counts and entries are all 0 with a refusal.
+ *
+ * Checks: those of jibrufath_receive_pack; then 18 of the file that came out, and 4 of a list that is too short.
+ *
+ * What memory holds afterwards:
+ *
+ *   answer            cube                     flags                  file                       lists
+ *   1 to 14           as jibrufath_receive_pack leaves them           as before                  as before
+ *   OK, cells left    filled, 00h where left   1 in the cells left    as before                  as before
+ *   18; 4 of a list   filled, a code cube      all 0                  the file, then as before   as before
+ *   OK, a plan        filled, a code cube      all 0                  the file, then as before   entries, then as before */
+uint64_t jibrufath_receive_plan(
+    const uint8_t *air, uint64_t air_len,
+    uint8_t *cube, uint64_t cube_len,
+    uint8_t *flags, uint64_t flags_len,
+    uint8_t *file, uint64_t file_len,
+    uint8_t *closures, uint64_t closures_len,
+    uint8_t *fibres, uint64_t fibres_len,
+    uint8_t *splices, uint64_t splices_len,
+    uint64_t counts[16],
+    uint64_t entries[3]);
 
 /* Cubes. */
 

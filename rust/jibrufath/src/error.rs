@@ -66,11 +66,12 @@ impl std::error::Error for Error {
     }
 }
 
-/// Makes room for so many bytes behind those of a vector, or says that the system has none.
-pub(crate) fn reserve(bytes: &mut Vec<u8>, more: usize) -> Result<(), Error> {
-    bytes
+/// Makes room for so many items behind those of a vector, or says that the system has none.
+pub(crate) fn reserve<T>(items: &mut Vec<T>, more: usize) -> Result<(), Error> {
+    let bytes = more.saturating_mul(size_of::<T>());
+    items
         .try_reserve(more)
-        .map_err(|_| Error::Allocation { bytes: more })
+        .map_err(|_| Error::Allocation { bytes })
 }
 
 /// So many bytes of 00h, or the error that the system has no memory for them.
@@ -92,8 +93,12 @@ mod tests {
         let bytes = isize::MAX as usize;
         assert_eq!(zeros(bytes), Err(Error::Allocation { bytes }));
         assert_eq!(
-            reserve(&mut vec![0], bytes),
+            reserve(&mut vec![0_u8], bytes),
             Err(Error::Allocation { bytes })
+        );
+        assert_eq!(
+            reserve(&mut vec![0_u64], bytes),
+            Err(Error::Allocation { bytes: usize::MAX })
         );
         assert_eq!(zeros(3), Ok(vec![0; 3]));
     }

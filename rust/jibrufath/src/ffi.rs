@@ -44,6 +44,50 @@ unsafe extern "C" {
 
     pub fn jibrufath_read_text(text: *const u8, text_len: u64, air: *mut u8, air_len: u64) -> u64;
 
+    pub fn jibrufath_write_plan(
+        closures: *const u8,
+        closures_len: u64,
+        fibres: *const u8,
+        fibres_len: u64,
+        splices: *const u8,
+        splices_len: u64,
+        output: *mut u8,
+        output_len: u64,
+    ) -> u64;
+
+    pub fn jibrufath_measure_plan(file: *const u8, file_len: u64, entries: *mut [u64; 3]) -> u64;
+
+    pub fn jibrufath_read_plan(
+        file: *const u8,
+        file_len: u64,
+        closures: *mut u8,
+        closures_len: u64,
+        fibres: *mut u8,
+        fibres_len: u64,
+        splices: *mut u8,
+        splices_len: u64,
+        entries: *mut [u64; 3],
+    ) -> u64;
+
+    pub fn jibrufath_receive_plan(
+        air: *const u8,
+        air_len: u64,
+        cube: *mut u8,
+        cube_len: u64,
+        flags: *mut u8,
+        flags_len: u64,
+        file: *mut u8,
+        file_len: u64,
+        closures: *mut u8,
+        closures_len: u64,
+        fibres: *mut u8,
+        fibres_len: u64,
+        splices: *mut u8,
+        splices_len: u64,
+        counts: *mut [u64; 16],
+        entries: *mut [u64; 3],
+    ) -> u64;
+
     pub fn jibrufath_encode(
         data: *const u8,
         data_len: u64,

@@ -23,11 +23,13 @@
 //! # Ok::<(), jibrufath::Error>(())
 //! ```
 //!
-//! [`mod@text`] has the text twin of an air pack, a line for each packet, and the way back.
+//! [`mod@text`] has the text twin of an air pack, a line for each packet, and the way back. [`plan`] has splice plans, as files and
+//! as packs whose file is one.
 //!
-//! [`write()`], [`receive`], [`AirPack`], [`job_pack`], [`text::to_text`] and [`text::from_text`] allocate, and say by their
-//! [`Error`] where the system has no memory. All other calls allocate nothing: the caller lends all memory, with the lengths that
-//! [`Shape`], [`needs()`], [`text::text_bytes`] or [`text::text_pack_bytes`] gives.
+//! [`write()`], [`receive`], [`AirPack`], [`job_pack`], [`text::to_text`], [`text::from_text`], [`plan::Plan`] and
+//! [`plan::receive`] allocate, and say by their [`Error`] where the system has no memory. All other calls allocate nothing: the
+//! caller lends all memory, with the lengths that [`Shape`], [`needs()`], [`text::text_bytes`], [`text::text_pack_bytes`] or
+//! [`plan::measure_plan`] gives.
 
 #![warn(missing_docs)]
 
@@ -39,6 +41,7 @@ mod fill;
 mod mend;
 mod needs;
 mod pack;
+pub mod plan;
 mod receive;
 mod refusal;
 mod scan;

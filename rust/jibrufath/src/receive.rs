@@ -7,7 +7,7 @@ use crate::{Error, Needs, Refusal, needs};
 
 /// The counts that come with the library's answer: the file's length, the packets, the repeats, and in place 13 the conflicts. The
 /// other places are kept.
-type Counts = [u64; 16];
+pub(crate) type Counts = [u64; 16];
 
 /// What came of a pack that [`receive_pack`] did not refuse: a file, or cells left.
 ///
@@ -56,6 +56,27 @@ pub enum Received {
         /// The cells whose copies are not all equal.
         conflicts: u64,
     },
+}
+
+impl Received {
+    /// What the library says of a pack: so many cells left, and these counts.
+    pub(crate) fn new(left: usize, counts: Counts) -> Received {
+        let [len, packets, repeats, .., conflicts, _, _] = counts;
+        match left {
+            0 => Received::File {
+                len: len as usize,
+                packets,
+                repeats,
+                conflicts,
+            },
+            cells => Received::Left {
+                cells,
+                packets,
+                repeats,
+                conflicts,
+            },
+        }
+    }
 }
 
 /// Places the packets of an air pack, fills what the lines force, and gives the file where nothing is left.
@@ -107,21 +128,7 @@ pub fn receive_pack(
 ) -> Result<Received, Refusal> {
     let mut counts = [0; 16];
     let left = answer(call(air, cube, flags, file, &mut counts))?;
-    let [len, packets, repeats, .., conflicts, _, _] = counts;
-    Ok(match left {
-        0 => Received::File {
-            len: len as usize,
-            packets,
-            repeats,
-            conflicts,
-        },
-        cells => Received::Left {
-            cells,
-            packets,
-            repeats,
-            conflicts,
-        },
-    })
+    Ok(Received::new(left, counts))
 }
 
 fn call(
@@ -157,7 +164,7 @@ pub(crate) fn read_air(air: &[u8]) -> Result<Needs, Refusal> {
     }
 }
 
-/// What [`receive`] gives: the file, or which cells are left.
+/// What [`receive`] gives: the file, or which cells are left. Where the file is more than bytes, `F` is what it is.
 ///
 /// ```
 /// use jibrufath::{AirPack, Reception, Shape, receive, write};
@@ -173,12 +180,12 @@ pub(crate) fn read_air(air: &[u8]) -> Result<Needs, Refusal> {
 /// # Ok::<(), jibrufath::Error>(())
 /// ```
 #[derive(Clone, Debug, PartialEq, Eq)]
-pub enum Reception {
+pub enum Reception<F = Vec<u8>> {
     /// Nothing is left.
     #[non_exhaustive]
     File {
         /// The file.
-        file: Vec<u8>,
+        file: F,
         /// The packets of the pack.
         packets: u64,
         /// The packets whose cell had come before, with the same bytes or with others.
@@ -202,7 +209,7 @@ pub enum Reception {
     },
 }
 
-impl Reception {
+impl<F> Reception<F> {
     /// The file; none where cells are left.
     ///
     /// ```
@@ -213,7 +220,7 @@ impl Reception {
     /// assert_eq!(receive(AirPack::new(shape)?.as_bytes())?.into_file(), None);
     /// # Ok::<(), jibrufath::Error>(())
     /// ```
-    pub fn into_file(self) -> Option<Vec<u8>> {
+    pub fn into_file(self) -> Option<F> {
         match self {
             Reception::File { file, .. } => Some(file),
             Reception::Left { .. } => None,
@@ -237,6 +244,39 @@ impl Reception {
             Reception::Left { flags, .. } => flags,
         };
         (0..flags.len()).filter(|&cell| flags[cell] == 1)
+    }
+
+    /// The same reception, with what is read in its file.
+    pub(crate) fn read<G, E>(
+        self,
+        read: impl FnOnce(F) -> Result<G, E>,
+    ) -> Result<Reception<G>, E> {
+        Ok(match self {
+            Reception::File {
+                file,
+                packets,
+                repeats,
+                conflicts,
+            } => Reception::File {
+                file: read(file)?,
+                packets,
+                repeats,
+                conflicts,
+            },
+            Reception::Left {
+                cells,
+                flags,
+                packets,
+                repeats,
+                conflicts,
+            } => Reception::Left {
+                cells,
+                flags,
+                packets,
+                repeats,
+                conflicts,
+            },
+        })
     }
 }
 

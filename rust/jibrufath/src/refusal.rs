@@ -21,7 +21,7 @@ pub enum Refusal {
     PacketSize,
     /// 3: W × cells is above 268,435,456.
     CubeSize,
-    /// 4: a lent slice has not the exact length.
+    /// 4: a lent slice has not the exact length; a list of a plan is too short, or ends inside an entry.
     SliceLength,
     /// 5: a flag is neither 0 nor 1.
     FlagValue,
@@ -53,6 +53,11 @@ pub enum Refusal {
         /// The line's number, from 1.
         line: u64,
     },
+    /// 18: an entry or count of a plan breaks a rule or is cut, or bytes are left over.
+    Entry {
+        /// Where it begins in the plan's file, from 0.
+        offset: u64,
+    },
 }
 
 impl Refusal {
@@ -79,6 +84,7 @@ impl Refusal {
             Refusal::Erasure => 15,
             Refusal::Uncorrected => 16,
             Refusal::Line { .. } => 17,
+            Refusal::Entry { .. } => 18,
         }
     }
 
@@ -112,7 +118,22 @@ impl Refusal {
         }
     }
 
-    /// The refusal with this number, of this packet or line where it is one of a packet or a line.
+    /// Where in a plan's file the entry or count that was refused begins, from 0; none where the refusal is not of a plan.
+    ///
+    /// ```
+    /// use jibrufath::Refusal;
+    ///
+    /// assert_eq!(Refusal::Entry { offset: 30 }.offset(), Some(30));
+    /// assert_eq!(Refusal::Contradiction.offset(), None);
+    /// ```
+    pub fn offset(self) -> Option<u64> {
+        match self {
+            Refusal::Entry { offset } => Some(offset),
+            _ => None,
+        }
+    }
+
+    /// The refusal with this number, at this place where it is one that names a place.
     fn numbered(number: u64, place: u64) -> Refusal {
         match number {
             1 => Refusal::Dimension,
@@ -131,6 +152,7 @@ impl Refusal {
             15 => Refusal::Erasure,
             16 => Refusal::Uncorrected,
             17 => Refusal::Line { line: place },
+            18 => Refusal::Entry { offset: place },
             _ => panic!("the library answers with numbers of the table"),
         }
     }
@@ -157,11 +179,15 @@ impl fmt::Display for Refusal {
             Refusal::Erasure => "a cell is flagged missing",
             Refusal::Uncorrected => "what mending leaves is not a code cube",
             Refusal::Line { .. } => "a line of the text breaks the form",
+            Refusal::Entry { .. } => {
+                "an entry or count of the plan breaks a rule or is cut, or bytes are left over"
+            }
         };
         write!(f, "refused {}: {meaning}", self.number())?;
-        match (self.packet(), self.line()) {
-            (Some(index), _) => write!(f, ", packet {index}"),
-            (_, Some(line)) => write!(f, ", line {line}"),
+        match self {
+            Refusal::CellIndex { packet } => write!(f, ", packet {packet}"),
+            Refusal::Line { line } => write!(f, ", line {line}"),
+            Refusal::Entry { offset } => write!(f, ", offset {offset}"),
             _ => Ok(()),
         }
     }
@@ -169,8 +195,8 @@ impl fmt::Display for Refusal {
 
 impl std::error::Error for Refusal {}
 
-/// Reads an answer of the library: the refusal's number (0 for none) in the low byte; above it a count, or with the refusal of
-/// a packet its index, or with that of a line its number.
+/// Reads an answer of the library: the refusal's number (0 for none) in the low byte; above it a count, or the place that the
+/// refusal names: a packet's index, a line's number, an offset in a plan.
 pub(crate) fn answer(word: u64) -> Result<usize, Refusal> {
     let (number, count) = (word % 256, word / 256);
     match number {
@@ -187,11 +213,12 @@ mod tests {
     fn answers() {
         assert_eq!(answer(0), Ok(0));
         assert_eq!(answer(27 * 256), Ok(27));
-        for number in (1..=11).chain(13..=17u8) {
+        for number in (1..=11).chain(13..=18u8) {
             let refusal = answer(u64::from(number) + 7 * 256).unwrap_err();
             assert_eq!(refusal.number(), number);
             assert_eq!(refusal.packet(), (number == 11).then_some(7));
             assert_eq!(refusal.line(), (number == 17).then_some(7));
+            assert_eq!(refusal.offset(), (number == 18).then_some(7));
         }
     }
 
@@ -202,7 +229,7 @@ mod tests {
     }
 
     #[test]
-    fn a_packet_or_a_line_is_named() {
+    fn a_place_is_named() {
         for (refusal, told) in [
             (
                 Refusal::CellIndex { packet: 7 },
@@ -211,6 +238,10 @@ mod tests {
             (
                 Refusal::Line { line: 3 },
                 "refused 17: a line of the text breaks the form, line 3",
+            ),
+            (
+                Refusal::Entry { offset: 30 },
+                "refused 18: an entry or count of the plan breaks a rule or is cut, or bytes are left over, offset 30",
             ),
             (
                 Refusal::Uncorrected,
@@ -222,8 +253,9 @@ mod tests {
     }
 
     #[test]
-    fn a_line_beyond_32_bits() {
-        let line = 4_294_967_297;
+    fn a_place_beyond_32_bits() {
+        let [line, offset] = [4_294_967_297; 2];
         assert_eq!(answer(17 + 256 * line), Err(Refusal::Line { line }));
+        assert_eq!(answer(18 + 256 * offset), Err(Refusal::Entry { offset }));
     }
 }
