@@ -54,11 +54,12 @@ pub fn numbered<T>(result: Result<T, Refusal>) -> Result<T, u8> {
     result.map_err(Refusal::number)
 }
 
-/// A refusal as the independent program gives it: its number, with the packet or the line that it names.
+/// A refusal as the independent program gives it: its number, with the packet, the line or the offset that it names.
 pub fn placed(refusal: Refusal) -> reference::Refusal {
+    let place = refusal.packet().or(refusal.line()).or(refusal.offset());
     reference::Refusal {
         number: refusal.number(),
-        place: refusal.packet().or(refusal.line()),
+        place,
     }
 }
 

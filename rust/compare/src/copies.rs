@@ -63,6 +63,18 @@ impl Source {
         copies
     }
 
+    /// The air pack of a random part of the cells, with copies that differ of several.
+    pub(crate) fn some_differ(&self, random: &mut Random) -> Vec<u8> {
+        let percent = random.among(0..=100);
+        let mut copies = self.all_sent();
+        copies.retain(|_| !random.chance(percent));
+        let count = random.among(1..=6);
+        for cell in random.different(count, self.shape.cells()) {
+            copies.extend(self.differing(random, cell));
+        }
+        air_of(self.shape, &random.shuffled(&copies))
+    }
+
     /// A cell as it was sent, with a byte changed, or with any bytes.
     fn arrived(&self, random: &mut Random, cell: usize) -> CellCopy {
         let mut copy = self.sent(cell);
@@ -89,15 +101,7 @@ pub(crate) fn one_differs(random: &mut Random) -> Vec<u8> {
 
 /// Several cells have copies that differ, among packets that are lost at random.
 pub(crate) fn some_differ(random: &mut Random) -> Vec<u8> {
-    let source = Source::random(random);
-    let percent = random.among(0..=100);
-    let mut copies = source.all_sent();
-    copies.retain(|_| !random.chance(percent));
-    let count = random.among(1..=6);
-    for cell in random.different(count, source.shape.cells()) {
-        copies.extend(source.differing(random, cell));
-    }
-    air_of(source.shape, &random.shuffled(&copies))
+    Source::random(random).some_differ(random)
 }
 
 /// No cell has copies that are all equal.

@@ -1,5 +1,6 @@
-//! `compare SEED COUNT`: makes COUNT random packs and texts of every kind. The library and the independent program are asked what
-//! each pack needs, and are given it for the writer, the receiver and the text writer; a text goes to the text reader of both.
+//! `compare SEED COUNT`: makes COUNT random packs, texts and plans of every kind. The library and the independent program are asked
+//! what each pack needs, and are given it for the writer, the receiver, the text writer and the plan receiver; a text goes to the
+//! text reader of both; a plan goes to the plan reader, its entries to the plan writer, and a pack of it to the plan receiver.
 //! Prints how many there were of each kind, what the answers were, and where the programs differ.
 
 use std::collections::BTreeMap;
@@ -7,15 +8,25 @@ use std::env;
 use std::process::ExitCode;
 use std::time::Instant;
 
-use compare::{Answers, FromText, KINDS, TEXT_KINDS, ToText, Trial};
+use compare::{
+    Answers, FromText, KINDS, PLAN_KINDS, PlanFile, PlanLists, PlanPack, TEXT_KINDS, ToText, Trial,
+};
 use reference::random::Random;
-use reference::{Outcome, Refusal};
+use reference::{Outcome, Received, Refusal};
 
 /// How many disagreements are told in full.
 const TOLD: usize = 10;
 
 /// The calls that answers are counted for.
-const CALLS: [&str; 4] = ["writer", "receiver", "text writer", "text reader"];
+const CALLS: [&str; 7] = [
+    "writer",
+    "receiver",
+    "text writer",
+    "text reader",
+    "plan receiver",
+    "plan reader",
+    "plan writer",
+];
 
 fn main() -> ExitCode {
     let numbers: Result<Vec<u64>, _> = env::args().skip(1).map(|word| word.parse()).collect();
@@ -28,44 +39,63 @@ fn main() -> ExitCode {
     tally.print();
     let seconds = start.elapsed().as_secs_f64();
     println!(
-        "seed {seed}: {count} packs and texts, each for every call that takes it, in {seconds:.1} s"
+        "seed {seed}: {count} packs, texts and plans, each for every call that takes it, in {seconds:.1} s"
     );
     println!("disagreements: {}", tally.disagreements);
     ExitCode::from(u8::from(tally.disagreements > 0))
 }
 
+/// A kind of packs, of texts or of plans, by its place among these.
+#[derive(Clone, Copy, PartialEq, Eq, PartialOrd, Ord)]
+enum Kind {
+    Pack(usize),
+    Text(usize),
+    Plan(usize),
+}
+
+impl Kind {
+    fn all() -> Vec<Kind> {
+        let packs = (0..KINDS.len()).map(Kind::Pack);
+        let texts = (0..TEXT_KINDS.len()).map(Kind::Text);
+        let plans = (0..PLAN_KINDS.len()).map(Kind::Plan);
+        packs.chain(texts).chain(plans).collect()
+    }
+
+    fn name(self) -> &'static str {
+        match self {
+            Kind::Pack(kind) => KINDS[kind].0,
+            Kind::Text(kind) => TEXT_KINDS[kind].0,
+            Kind::Plan(kind) => PLAN_KINDS[kind].0,
+        }
+    }
+}
+
 /// What was tried, and what came of it.
 #[derive(Default)]
 struct Tally {
-    kinds: BTreeMap<usize, u64>,
+    kinds: BTreeMap<Kind, u64>,
     /// How often each of the calls gave each answer.
     answers: BTreeMap<String, [u64; CALLS.len()]>,
     disagreements: usize,
-}
-
-/// The name of a kind, those of packs before those of texts.
-fn name(kind: usize) -> &'static str {
-    match kind.checked_sub(KINDS.len()) {
-        None => KINDS[kind].0,
-        Some(kind) => TEXT_KINDS[kind].0,
-    }
 }
 
 impl Tally {
     fn of(seed: u64, count: u64) -> Tally {
         let mut random = Random::new(seed);
         let mut tally = Tally::default();
+        let kinds = Kind::all();
         for number in 0..count {
-            let kind = random.among(0..=KINDS.len() + TEXT_KINDS.len() - 1);
+            let kind = random.pick(&kinds);
             *tally.kinds.entry(kind).or_default() += 1;
-            let tried = match kind.checked_sub(KINDS.len()) {
-                None => tally.try_pack(&mut random, kind),
-                Some(kind) => tally.try_text(&mut random, kind),
+            let tried = match kind {
+                Kind::Pack(kind) => tally.try_pack(&mut random, kind),
+                Kind::Text(kind) => tally.try_text(&mut random, kind),
+                Kind::Plan(kind) => tally.try_plan(&mut random, kind),
             };
             if let Err(difference) = tried {
                 tally.disagreements += 1;
                 if tally.disagreements <= TOLD {
-                    println!("number {number}, {}: {difference}", name(kind));
+                    println!("number {number}, {}: {difference}", kind.name());
                 }
             }
         }
@@ -76,19 +106,13 @@ impl Tally {
         let trial = Trial::random(random, kind);
         let answers = trial.compare(random);
         let Answers { write, receive } = answers.map_err(|told| format!("{told}\n{trial:?}"))?;
-        let to_text = ToText::random(random, trial.pack);
+        let plan_pack = PlanPack::random(random, trial);
+        self.try_plan_pack(random, &plan_pack)?;
+        let to_text = ToText::random(random, plan_pack.trial.pack);
         let answer = to_text.compare(random);
         let text = answer.map_err(|told| format!("{told}\n{to_text:?}"))?;
         self.count(0, write.map(|()| "done").map_err(Refusal::from));
-        self.count(
-            1,
-            receive.map(|received| match (received.outcome, received.conflicts) {
-                (Outcome::File { .. }, 0) => "file",
-                (Outcome::File { .. }, _) => "file, with conflicts",
-                (Outcome::Left { .. }, 0) => "left",
-                (Outcome::Left { .. }, _) => "left, with conflicts",
-            }),
-        );
+        self.count(1, receive.map(end));
         self.count(2, text.map(|()| "done"));
         Ok(())
     }
@@ -103,6 +127,29 @@ impl Tally {
         Ok(())
     }
 
+    fn try_plan(&mut self, random: &mut Random, kind: usize) -> Result<(), String> {
+        let (_, make) = PLAN_KINDS[kind];
+        let file = make(random);
+        let lists = PlanLists::random(random, &file);
+        let written = lists.compare(random);
+        let written = written.map_err(|told| format!("{told}\n{lists:?}"))?;
+        let pack = PlanPack::of_file(random, &file);
+        self.try_plan_pack(random, &pack)?;
+        let file = PlanFile::random(random, file);
+        let read = file.compare(random);
+        let read = read.map_err(|told| format!("{told}\n{file:?}"))?;
+        self.count(5, read.map(|_| "done"));
+        self.count(6, written.map(|()| "done"));
+        Ok(())
+    }
+
+    fn try_plan_pack(&mut self, random: &mut Random, pack: &PlanPack) -> Result<(), String> {
+        let shown = pack.compare(random);
+        let shown = shown.map_err(|told| format!("{told}\n{pack:?}"))?;
+        self.count(4, shown.map(|(received, _)| end(received)));
+        Ok(())
+    }
+
     fn count(&mut self, call: usize, answer: Result<&str, Refusal>) {
         let answer = match answer {
             Ok(done) => done.into(),
@@ -112,9 +159,9 @@ impl Tally {
     }
 
     fn print(&self) {
-        println!("| packs and texts | number |\n|---|---|");
-        for (&kind, number) in &self.kinds {
-            println!("| {} | {number} |", name(kind));
+        println!("| packs, texts and plans | number |\n|---|---|");
+        for (kind, number) in &self.kinds {
+            println!("| {} | {number} |", kind.name());
         }
         println!("\n| answer | {} |", CALLS.join(" | "));
         println!("|---|{}", "---|".repeat(CALLS.len()));
@@ -123,5 +170,15 @@ impl Tally {
             println!("| {answer} | {} |", numbers.join(" | "));
         }
         println!();
+    }
+}
+
+/// How a reception ended.
+fn end(received: Received) -> &'static str {
+    match (received.outcome, received.conflicts) {
+        (Outcome::File { .. }, 0) => "file",
+        (Outcome::File { .. }, _) => "file, with conflicts",
+        (Outcome::Left { .. }, 0) => "left",
+        (Outcome::Left { .. }, _) => "left, with conflicts",
     }
 }

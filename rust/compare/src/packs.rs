@@ -125,7 +125,7 @@ impl Source {
     }
 
     /// The air pack of a random part of the cells.
-    fn some_of_it(&self, random: &mut Random) -> Vec<u8> {
+    pub(crate) fn some_of_it(&self, random: &mut Random) -> Vec<u8> {
         let percent = random.among(0..=100);
         let cells = (0..self.shape.cells()).filter(|_| !random.chance(percent));
         let cells = cells.collect();

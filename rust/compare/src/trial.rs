@@ -100,7 +100,11 @@ impl Trial {
         let receive = compare(
             random,
             [&self.pack, cube, flags, file],
-            |[air, cube, flags, file]| told(receive_pack(air, cube, flags, file)),
+            |[air, cube, flags, file]| {
+                receive_pack(air, cube, flags, file)
+                    .map(told)
+                    .map_err(placed)
+            },
             |[air, cube, flags, file]| reference::receive_pack(air, cube, flags, file),
         )
         .map_err(|difference| format!("receiver: {difference}"))?;
@@ -111,11 +115,9 @@ impl Trial {
     }
 }
 
-/// The receiver's answer as the independent program gives it.
-fn told(
-    result: Result<Received, jibrufath::Refusal>,
-) -> Result<reference::Received, reference::Refusal> {
-    let (outcome, packets, repeats, conflicts) = match result.map_err(placed)? {
+/// What came of a pack, as the independent program gives it.
+pub(crate) fn told(received: Received) -> reference::Received {
+    let (outcome, packets, repeats, conflicts) = match received {
         Received::File {
             len,
             packets,
@@ -131,12 +133,12 @@ fn told(
             ..
         } => (Outcome::Left { cells }, packets, repeats, conflicts),
     };
-    Ok(reference::Received {
+    reference::Received {
         outcome,
         packets,
         repeats,
         conflicts,
-    })
+    }
 }
 
 /// What the library says that a pack needs, in the places of the exported call.
