@@ -9,14 +9,19 @@
 #include <ucontext.h>
 
 enum { STACK = 1 << 18, PAINT = 0xA5 };
-enum call { NOTHING, ENCODE, EXTRACT, CHECK, FILL, SCAN, MEND, MEND_AXIS, WRITE_PACK, RECEIVE_PACK, NEEDS, WRITE_TEXT, READ_TEXT, TEXT_SIZES, SIZES,
-    FIELD, CALLS };
+enum call { NOTHING, ENCODE, EXTRACT, CHECK, FILL, SCAN, MEND, MEND_AXIS, WRITE_PACK, RECEIVE_PACK, NEEDS, WRITE_TEXT, READ_TEXT, TEXT_SIZES,
+    WRITE_PLAN, MEASURE_PLAN, READ_PLAN, RECEIVE_PLAN, SIZES, FIELD, CALLS };
 
-static const char *const names[CALLS] = {"", "encode", "extract", "is_code_cube", "fill", "scan", "mend", "mend_axis", "write_pack", "receive_pack", "needs",
-    "write_text", "read_text", "text sizes", "sizes", "field"};
+static const char *const names[CALLS] = {"", "encode", "extract", "is_code_cube", "fill", "scan", "mend", "mend_axis", "write_pack", "receive_pack",
+    "needs", "write_text", "read_text", "text sizes", "write_plan", "measure_plan", "read_plan", "receive_plan", "sizes", "field"};
 
 static const uint64_t shapes[][4] = {{3, 3, 3, 5}, {5, 5, 5, 16}, {4, 4, 4, 63}, {12, 12, 8, 20}, {9, 9, 9, 1024}, {255, 3, 3, 1024},
     {3, 255, 3, 1024}, {3, 3, 255, 1024}, {255, 255, 3, 1}, {20, 20, 10, 397}, {40, 40, 40, 64}, {69, 69, 25, 397}};
+
+/* A plan: closure 7, its fibres 1 and 288, and their splice. */
+enum { CLOSURES = 4, CLOSURES_LEN = 2, FIBRES = 10, FIBRES_LEN = 8, SPLICES = 22, SPLICES_LEN = 8, PLAN = 30 };
+static const uint8_t plan[PLAN] = {1, 0, 0, 0, 7, 0, 2, 0, 0, 0, 7, 0, 1, 0, 7, 0, 32, 1, 1, 0, 0, 0, 0, 0, 0, 0, 1, 0, 0, 0};
+static uint8_t listed[3][SPLICES_LEN], written[PLAN];
 
 /* A shape, its sizes, and the memory that its calls are lent. */
 static uint64_t l1, l2, l3, w, cells, bytes, capacity, output_len, job_len, text_len;
@@ -29,7 +34,7 @@ static ucontext_t here, there;
 
 static void make_call(void)
 {
-    uint64_t places[16];
+    uint64_t places[16], entries[3];
     switch (measured) {
     case ENCODE: answer = jibrufath_encode(data, capacity, cube, bytes, l1, l2, l3, w); break;
     case EXTRACT: answer = jibrufath_extract(cube, bytes, data, capacity, l1, l2, l3, w); break;
@@ -47,6 +52,19 @@ static void make_call(void)
     case READ_TEXT: answer = jibrufath_read_text(text, text_len, output, output_len); break;
     case TEXT_SIZES:
         answer = jibrufath_number(jibrufath_text_bytes(output, output_len)) | jibrufath_text_pack_bytes(text, text_len);
+        break;
+    case WRITE_PLAN:
+        answer = jibrufath_write_plan(
+            plan + CLOSURES, CLOSURES_LEN, plan + FIBRES, FIBRES_LEN, plan + SPLICES, SPLICES_LEN, written, PLAN);
+        break;
+    case MEASURE_PLAN: answer = jibrufath_measure_plan(plan, PLAN, entries); break;
+    case READ_PLAN:
+        answer = jibrufath_read_plan(
+            plan, PLAN, listed[0], SPLICES_LEN, listed[1], SPLICES_LEN, listed[2], SPLICES_LEN, entries);
+        break;
+    case RECEIVE_PLAN:
+        answer = jibrufath_receive_plan(output, output_len, cube, bytes, flags, cells, file, capacity - 4, listed[0], SPLICES_LEN,
+            listed[1], SPLICES_LEN, listed[2], SPLICES_LEN, places, entries);
         break;
     case SIZES: answer = jibrufath_pack_bytes(l1, l2, l3, w); break;
     case FIELD: answer = (uint64_t)jibrufath_mul(jibrufath_inverse(3), jibrufath_pow(200)) << 8; break;
@@ -80,7 +98,7 @@ static uint8_t *lend(uint64_t len)
     return memory;
 }
 
-/* Lends all memory for a shape, with a job pack of the longest file and all its packets in output. */
+/* Lends all memory for a shape, with a job pack of the plan, or of no byte where there is no room for it, and all its packets in output. */
 static void begin(const uint64_t shape[4])
 {
     l1 = shape[0], l2 = shape[1], l3 = shape[2], w = shape[3];
@@ -90,11 +108,13 @@ static void begin(const uint64_t shape[4])
     output_len = jibrufath_count(jibrufath_pack_bytes(l1, l2, l3, w));
     cube = lend(bytes), second = lend(bytes), flags = lend(cells), data = lend(capacity), file = lend(capacity - 4);
     output = lend(output_len);
-    job_len = 17 + capacity - 4;
+    uint8_t file_len = capacity - 4 < PLAN ? 0 : PLAN;
+    job_len = 17 + file_len;
     job = lend(job_len);
     job[0] = 5, job[4] = (uint8_t)l1, job[5] = (uint8_t)l2, job[6] = (uint8_t)l3, job[7] = (uint8_t)w, job[8] = (uint8_t)(w >> 8);
-    for (int i = 0; i < 4; i++)
-        job[9 + i] = (uint8_t)((capacity - 4) >> (8 * i));
+    job[9] = file_len;
+    for (int i = 0; i < file_len; i++)
+        job[13 + i] = plan[i];
     for (uint64_t i = 0; i < capacity; i++)
         data[i] = (uint8_t)(i * 31 + 7);
     jibrufath_write_pack(job, job_len, cube, bytes, output, output_len);
@@ -122,7 +142,7 @@ int main(void)
             prepare(call);
             size_t taken = deepest(call) - before;
             most[call] = taken > most[call] ? taken : most[call];
-            if (jibrufath_number(answer) != JIBRUFATH_OK)
+            if (jibrufath_number(answer) != (call == RECEIVE_PLAN && job_len == 17 ? JIBRUFATH_ENTRY : JIBRUFATH_OK))
                 return 1;
         }
         free(cube), free(second), free(flags), free(data), free(file), free(output), free(job), free(text);

@@ -4,8 +4,8 @@ use std::fs;
 use std::path::{Path, PathBuf};
 use std::process::Command;
 
-/// What the example in C prints.
-const PRINTED: &str = "\
+/// What examples/c/receive.c prints.
+const RECEIVED: &str = "\
 125 packets of 16 bytes written
 50 packets lost: 0 conflicts, \"Splice plan 17: fibre 3 to fibre 12, tray B.\"
 75 packets lost: 0 conflicts, 75 cells left
@@ -14,8 +14,19 @@ a packet for a cell outside the cube: refused 11, packet 0
 a pack of another shape: no room for a cube of 265302000 bytes
 ";
 
+/// What examples/c/plan.c prints.
+const PLANNED: &str = "\
+a plan of 84 bytes, in 125 packets of 16
+50 packets lost: 2 closures, 9 fibres, 4 splices
+  closure 17: 1-25 2-27 3-26
+  closure 210: 7-288
+75 packets lost: 75 cells left, and no plan
+a fibre in two splices: refused 18, offset 60
+a file that is cut: refused 18, offset 76
+";
+
 /// The stack that each call may take, in bytes, as the header says.
-const STACK: [(&str, usize); 15] = [
+const STACK: [(&str, usize); 19] = [
     ("encode", 12_000),
     ("extract", 1_000),
     ("is_code_cube", 12_000),
@@ -29,6 +40,10 @@ const STACK: [(&str, usize); 15] = [
     ("write_text", 5_000),
     ("read_text", 1_000),
     ("text sizes", 1_000),
+    ("write_plan", 3_000),
+    ("measure_plan", 3_000),
+    ("read_plan", 3_000),
+    ("receive_plan", 40_000),
     ("sizes", 1_000),
     ("field", 1_000),
 ];
@@ -61,8 +76,9 @@ fn printed(name: &str) -> String {
 }
 
 #[test]
-fn the_example_runs() {
-    assert_eq!(printed("receive"), PRINTED);
+fn the_examples_run() {
+    assert_eq!(printed("receive"), RECEIVED);
+    assert_eq!(printed("plan"), PLANNED);
 }
 
 #[test]
@@ -108,7 +124,7 @@ fn the_header_declares_what_is_exported() {
     let mut declared: Vec<String> = header.split(';').filter_map(declaration).collect();
     declared.sort();
     assert_eq!(declared, exported());
-    assert_eq!(declared.len(), 21);
+    assert_eq!(declared.len(), 25);
 }
 
 #[test]
@@ -169,6 +185,7 @@ fn prototype(signature: &str) -> String {
         "&[u8]" => format!("const uint8_t *{name}, uint64_t {name}_len"),
         "&mut [u8]" => format!("uint8_t *{name}, uint64_t {name}_len"),
         "&mut [u64; 2]" => format!("uint64_t {name}[2]"),
+        "&mut [u64; 3]" => format!("uint64_t {name}[3]"),
         "&mut [u64; 16]" => format!("uint64_t {name}[16]"),
         "usize" => format!("uint64_t {name}"),
         _ => format!("{} {name}", number(kind)),
@@ -181,6 +198,7 @@ fn declaration_in_c(signature: &str) -> String {
         "*const u8" => format!("const uint8_t *{name}"),
         "*mut u8" => format!("uint8_t *{name}"),
         "*mut [u64; 2]" => format!("uint64_t {name}[2]"),
+        "*mut [u64; 3]" => format!("uint64_t {name}[3]"),
         "*mut [u64; 16]" => format!("uint64_t {name}[16]"),
         _ => format!("{} {name}", number(kind)),
     })
