@@ -1,5 +1,5 @@
 /* Fuzzing of the exported calls: an input's first byte chooses a call, its second the lengths of lent slices, the rest is a shape and a pack,
- * a cube or a text. Whatever the input is, the answer must be one that the header allows, and every lent byte as the header says. */
+ * a cube, a text or a plan. Whatever the input is, the answer must be one that the header allows, and every lent byte as the header says. */
 #include "calls.h"
 #include "blocks.h"
 
@@ -9,11 +9,13 @@
 
 static const char *const names[NOTED] = {
     "receive_pack", "write_pack", "write, lose, receive", "write, lose, damage, receive", "fill", "mend", "mend_axis", "encode, extract",
-    "sizes", "needs", "is_code_cube", "read_text", "write_text, read_text", "write_text, change, read_text", "scan", "text_bytes, text_pack_bytes"};
+    "sizes", "needs", "is_code_cube", "read_text", "write_text, read_text", "write_text, change, read_text", "scan", "read_plan", "write_plan",
+    "read_plan, changed", "receive_plan", "write, lose, receive_plan", "text_bytes, text_pack_bytes", "measure_plan"};
 
 static fuzz_call *const calls[CALLS] = {
     fuzz_receive, fuzz_write, fuzz_return, fuzz_damage, fuzz_fill, fuzz_mend, fuzz_mend_axis, fuzz_encode, fuzz_sizes, fuzz_needs,
-    fuzz_check, fuzz_read_text, fuzz_write_text, fuzz_change_text, fuzz_scan};
+    fuzz_check, fuzz_read_text, fuzz_write_text, fuzz_change_text, fuzz_scan, fuzz_read_plan, fuzz_write_plan, fuzz_change_plan,
+    fuzz_receive_plan, fuzz_return_plan};
 
 /* Each call with each number, and how large the count was: feedback for libFuzzer beside the library's own blocks. */
 __attribute__((section("__libfuzzer_extra_counters"))) static uint8_t answered[NOTED][MOST_NUMBER + 1][8];
@@ -21,7 +23,8 @@ __attribute__((section("__libfuzzer_extra_counters"))) static uint8_t answered[N
 /* How often each call gave each number. */
 static unsigned long answers[NOTED][MOST_NUMBER + 1];
 
-struct lent pack, cube, flags, file, output, data, text;
+struct lent pack, cube, flags, file, output, data, text, closures, fibres, splices;
+uint64_t counts[JIBRUFATH_COUNTS];
 
 uint8_t next_byte(struct input *input)
 {
@@ -70,14 +73,14 @@ void note(enum call call, uint64_t answer, uint32_t numbers)
     unsigned number = (unsigned)(answer & 0xFF);
     require(number <= MOST_NUMBER && (numbers >> number & 1), "a number of the call");
     uint64_t count = jibrufath_count(answer);
-    int counted = number == JIBRUFATH_OK || number == JIBRUFATH_CELL_INDEX || number == JIBRUFATH_LINE;
+    int counted = number == JIBRUFATH_OK || number == JIBRUFATH_CELL_INDEX || number == JIBRUFATH_LINE || number == JIBRUFATH_ENTRY;
     require(counted || count == 0, "no count with this refusal");
     int size = 0;
     while (size < 7 && count >> (2 * size) != 0)
         size++;
     answered[call][number][size] = 1;
     answers[call][number]++;
-    const struct lent *slices[] = {&pack, &cube, &flags, &file, &output, &data, &text};
+    const struct lent *slices[] = {&pack, &cube, &flags, &file, &output, &data, &text, &closures, &fibres, &splices};
     for (size_t i = 0; i < sizeof slices / sizeof *slices; i++)
         require(slices[i]->bytes == NULL || margin_kept(slices[i]), "the bytes beside a slice");
 }

@@ -26,8 +26,7 @@ static enum jibrufath_answer judged(struct shape *shape)
     return capacity_of(shape) < 4 ? JIBRUFATH_CAPACITY : JIBRUFATH_OK;
 }
 
-/* Asks what `pack` needs, and answers with its shape, or with a small one where that is refused or too large. */
-static struct shape shape_in_pack(void)
+struct shape shape_in_pack(void)
 {
     struct shape shape = {{3, 3, 3}, 5}, small = shape;
     uint64_t needs[JIBRUFATH_NEEDS], expected[JIBRUFATH_NEEDS] = {0};
@@ -104,7 +103,7 @@ static void check_opened(const struct shape *shape, size_t len)
     require(kept_from(&file, len), "the file buffer behind the file");
 }
 
-static void check_received(const struct shape *shape, uint64_t answer, const uint64_t *counts)
+static void check_received(const struct shape *shape, uint64_t answer)
 {
     static struct placing placing;
     unsigned number = (unsigned)jibrufath_number(answer);
@@ -131,18 +130,21 @@ static void check_received(const struct shape *shape, uint64_t answer, const uin
     require(memcmp(counts, placing.counts, sizeof placing.counts) == 0, "the counts");
 }
 
-/* Receives what stands in `pack`. */
-static uint64_t receive(const struct shape *shape, uint8_t choice, enum call call)
+void lend_receiver(const struct shape *shape, uint8_t choice)
 {
     lend(&cube, near(cells_of(shape) * shape->w, choice, 0), choice);
     lend(&flags, near(cells_of(shape), choice, 1), choice);
     lend(&file, near(capacity_of(shape) - 4, choice, 2), choice);
-    uint64_t counts[JIBRUFATH_COUNTS];
+}
+
+uint64_t receive(const struct shape *shape, uint8_t choice, enum call call)
+{
+    lend_receiver(shape, choice);
     memset(counts, 0xEE, sizeof counts);
     uint64_t answer = jibrufath_receive_pack(
         pack.bytes, pack.len, cube.bytes, cube.len, flags.bytes, flags.len, file.bytes, file.len, counts);
     note(call, answer, 0x6FDF); /* 0 to 4, 6 to 11, 13, 14 */
-    check_received(shape, answer, counts);
+    check_received(shape, answer);
     return answer;
 }
 
@@ -153,8 +155,7 @@ void fuzz_receive(struct input input, uint8_t choice)
     receive(&shape, choice, RECEIVE);
 }
 
-/* Writes what stands in `pack` to `output`. */
-static uint64_t write_job(const struct shape *shape, uint8_t choice, enum call call)
+uint64_t write_job(const struct shape *shape, uint8_t choice, enum call call)
 {
     size_t cells = cells_of(shape);
     lend(&cube, near(cells * shape->w, choice, 0), choice);
@@ -212,8 +213,7 @@ static void disagree(struct input *input, const struct shape *shape)
     }
 }
 
-/* Adds packets of `output`, without some and with repeats, by the input's bytes. */
-static void lose(struct input *input, const struct shape *shape)
+void lose(struct input *input, const struct shape *shape)
 {
     size_t cells = cells_of(shape);
     uint8_t share = next_byte(input);
@@ -225,8 +225,7 @@ static void lose(struct input *input, const struct shape *shape)
     }
 }
 
-/* Leaves in `pack` the air pack of what was heard, from one of its packets on and round to it. */
-static void gather(const struct shape *shape, size_t first, uint8_t choice)
+void gather(const struct shape *shape, size_t first, uint8_t choice)
 {
     static uint8_t air[LENT_MOST];
     size_t size = 3 + shape->w, packets = heard.packets, behind = packets - first;
@@ -239,13 +238,9 @@ static void gather(const struct shape *shape, size_t first, uint8_t choice)
     heard.packets = 0;
 }
 
-/* Leaves in `pack` a job with a file of the input's bytes, which may be one byte too long, and answers with the file's length. */
-static size_t next_job(struct input *input, const struct shape *shape, uint8_t choice)
+void lend_job(const struct shape *shape, const uint8_t *bytes, size_t len, uint8_t choice)
 {
     static uint8_t job[HEAD + MOST_BYTES];
-    size_t room = capacity_of(shape) < 4 ? 0 : capacity_of(shape) - 4;
-    size_t len = next_number(input) % (room + 2);
-    size_t copied = len < input->len ? len : input->len;
     job[0] = 5;
     for (int axis = 0; axis < 3; axis++)
         job[4 + axis] = (uint8_t)shape->length[axis];
@@ -253,10 +248,22 @@ static size_t next_job(struct input *input, const struct shape *shape, uint8_t c
     job[8] = (uint8_t)(shape->w >> 8);
     for (int i = 0; i < 4; i++)
         job[9 + i] = (uint8_t)(len >> (8 * i));
-    memset(job + 13, 0, len + 4);
-    memcpy(job + 13, input->bytes, copied);
-    *input = (struct input){input->bytes + copied, input->len - copied};
+    memcpy(job + 13, bytes, len);
+    memset(job + 13 + len, 0, 4);
     lend_copy(&pack, job, HEAD + len, choice);
+}
+
+/* Leaves in `pack` a job with a file of the input's bytes, which may be one byte too long, and answers with the file's length. */
+static size_t next_job(struct input *input, const struct shape *shape, uint8_t choice)
+{
+    static uint8_t next[MOST_BYTES];
+    size_t room = capacity_of(shape) < 4 ? 0 : capacity_of(shape) - 4;
+    size_t len = next_number(input) % (room + 2);
+    size_t copied = len < input->len ? len : input->len;
+    memset(next, 0, len);
+    memcpy(next, input->bytes, copied);
+    *input = (struct input){input->bytes + copied, input->len - copied};
+    lend_job(shape, next, len, choice);
     return len;
 }
 
