@@ -1,5 +1,6 @@
 //! The benchmark: every call against memcpy of the cube, and encoding against ISA-L, GF-Complete, zfec and par2; writing and reading
-//! the text of a pack against xxd; how time grows with the cube, with the losses and with the sweeps that they take.
+//! the text of a pack against xxd; reading and writing plans against memcpy of their files; how time grows with the cube, with the
+//! losses and with the sweeps that they take.
 //!
 //! `bench` prints all tables, `bench TABLE ...` those that are named, `bench --svg PATH` all of them, and draws some. All times of one
 //! table row come from the same run, in rounds that take every candidate in turn; each is the minimum of its rounds, in processor time
@@ -16,6 +17,7 @@ mod gf_complete;
 mod growth;
 mod isal;
 mod measure;
+mod plans;
 mod plot;
 mod programs;
 mod receiving;
@@ -37,7 +39,7 @@ use crate::measure::ROUNDS;
 const REFERENCE_SET: Shape = Shape::new(69, 69, 25, 397);
 
 /// The names of the tables, in the order in which they are printed.
-const TABLES: [&str; 9] = [
+const TABLES: [&str; 10] = [
     "encoding",
     "repair",
     "receiving",
@@ -47,6 +49,7 @@ const TABLES: [&str; 9] = [
     "scans",
     "programs",
     "texts",
+    "plans",
 ];
 
 fn main() -> Result<(), Box<dyn Error>> {
@@ -86,7 +89,8 @@ cube that encode has just written, to a buffer that nothing else touches. Buffer
             "sweeps" => bars.extend(sweeps::table()?),
             "scans" => scans::table()?,
             "programs" => programs::table()?,
-            _ => texts::table()?,
+            "texts" => texts::table()?,
+            _ => bars.extend(plans::table()?),
         }
     }
     if !bars.is_empty() {
