@@ -1,12 +1,12 @@
 //! `demo [PATH]`: writes README.md as packets, loses some of them in three ways, receives the rest, and draws what came of it, to
 //! PATH or to target/demo.svg.
 
+#[path = "../drawing/mod.rs"]
+mod drawing;
 mod svg;
 
-use std::env;
 use std::error::Error;
 use std::fs;
-use std::path::{Path, PathBuf};
 
 use jibrufath::{AirPack, Reception, Shape, packets, receive, write};
 use reference::random::Random;
@@ -30,9 +30,7 @@ struct Scene {
 }
 
 fn main() -> Result<(), Box<dyn Error>> {
-    let package = Path::new(env!("CARGO_MANIFEST_DIR"));
-    let repository = package.ancestors().nth(2).ok_or("no repository")?;
-    let file = fs::read(repository.join("README.md"))?;
+    let file = fs::read(drawing::repository().join("README.md"))?;
     let shape = shape_for(file.len());
     let pack = write(shape, &file)?;
     let [l1, l2, l3] = LENGTHS;
@@ -51,15 +49,10 @@ fn main() -> Result<(), Box<dyn Error>> {
         scenes.push(scene);
     }
 
-    let drawing = match env::args_os().nth(1) {
-        Some(path) => PathBuf::from(path),
-        None => repository.join("target/demo.svg"),
-    };
-    fs::write(&drawing, svg::draw(&scenes))?;
-    let name = drawing.strip_prefix(repository).unwrap_or(&drawing);
+    let kept = drawing::keep(&svg::draw(&scenes), "demo.svg")?;
     println!(
         "\nThe planes of the three cubes are drawn in {}.",
-        name.display()
+        kept.display()
     );
     Ok(())
 }

@@ -1,5 +1,6 @@
 //! The drawing: a row of planes for each reception, one square for each cell.
 
+use crate::drawing::{page, text};
 use crate::{Cell, LENGTHS, Scene};
 
 /// The side of a cell with the space beside it, the space between planes, the margin of the page.
@@ -23,16 +24,11 @@ pub fn draw(scenes: &[Scene]) -> String {
     let row = TITLE + l2 * CELL + BELOW;
     let width = 2 * MARGIN + l3 * (l1 * CELL + GAP) - GAP;
     let height = 2 * MARGIN + LEGEND + scenes.len() * row - BELOW + 18;
-    let mut drawing = format!(
-        "<svg xmlns=\"http://www.w3.org/2000/svg\" viewBox=\"0 0 {width} {height}\" width=\"{width}\" height=\"{height}\" \
-         font-family=\"Helvetica, Arial, sans-serif\" font-size=\"13\" fill=\"#3b4754\">\n\
-         <rect width=\"{width}\" height=\"{height}\" rx=\"8\" fill=\"#ffffff\"/>\n"
-    );
-    drawing += &legend();
+    let mut drawn = legend();
     for (number, scene) in scenes.iter().enumerate() {
-        drawing += &planes(scene, MARGIN + LEGEND + number * row);
+        drawn += &planes(scene, MARGIN + LEGEND + number * row);
     }
-    drawing + "</svg>\n"
+    page(width, height, &drawn)
 }
 
 fn legend() -> String {
@@ -97,8 +93,4 @@ fn square(number: usize, top: usize) -> String {
     let y = top + TITLE + b * CELL;
     let side = CELL - 1;
     format!("M{x} {y}h{side}v{side}h-{side}z")
-}
-
-fn text(x: usize, y: usize, attributes: &str, words: &str) -> String {
-    format!("<text x=\"{x}\" y=\"{y}\" {attributes}>{words}</text>\n")
 }
