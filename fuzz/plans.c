@@ -103,7 +103,7 @@ void fuzz_read_plan(struct input input, uint8_t choice)
     read_plan(choice, READ_PLAN);
 }
 
-/* Any bytes as three lists: their lengths by two bytes of the input, of which one may be that of a part of an entry. */
+/* Any bytes as three lists, of which one may end inside an entry: to an output of another length first, which is refused for that alone. */
 void fuzz_write_plan(struct input input, uint8_t choice)
 {
     static uint8_t expected[LENT_MOST];
@@ -122,9 +122,9 @@ void fuzz_write_plan(struct input input, uint8_t choice)
         whole &= len % size == 0;
     }
     struct plan plan;
-    size_t len = near(at, choice, 0);
-    uint64_t judged = whole && len == at ? judge_plan(&plan, expected, at) : JIBRUFATH_SLICE_LENGTH;
-    require(write_to_output(len, choice, WRITE_PLAN) == judged, "what the lists are");
+    uint64_t judged = whole ? judge_plan(&plan, expected, at) : JIBRUFATH_SLICE_LENGTH;
+    require(write_to_output(choice & 2 ? at + 1 : at - 1, choice, WRITE_PLAN) == JIBRUFATH_SLICE_LENGTH, "another length");
+    require(write_to_output(at, choice, WRITE_PLAN) == judged, "what the lists are");
     if (judged == JIBRUFATH_OK) {
         require(memcmp(output.bytes, expected, at) == 0, "the plan's file");
         lend_copy(&file, expected, at, choice);

@@ -154,11 +154,11 @@ fn spliced_twice(random: &mut Random) -> Vec<u8> {
     print(&plan)
 }
 
-/// One end of a splice becomes any fibre, mostly of another closure.
+/// One end of a splice becomes any fibre, mostly of another closure, or the one behind the last.
 fn spliced_across(random: &mut Random) -> Vec<u8> {
     let mut plan = spliced_plan(random, 1);
     let splice = random.among(0..=plan.splices.len() - 1);
-    plan.splices[splice].1 = random.among(0..=plan.fibres.len() - 1) as u32;
+    plan.splices[splice].1 = random.among(0..=plan.fibres.len()) as u32;
     put_in_order(&mut plan);
     print(&plan)
 }

@@ -157,6 +157,24 @@ fn plans_by_hand() {
     }
 }
 
+/// The index that is one too high, in a closure whose number stands in the file where that fibre would: the count of splices.
+#[test]
+fn an_index_just_behind_the_fibres() {
+    for count in 1..=140 {
+        let closure = count as u16;
+        let splices: Vec<(u32, u32)> = (0..count).map(|i| (i, 2 * count - 1 - i)).collect();
+        let mut plan = Plan {
+            closures: vec![closure],
+            fibres: (1..=2 * closure).map(|number| (closure, number)).collect(),
+            splices,
+        };
+        assert_eq!(judged(&plan), None, "{plan:?}");
+        let last = count as usize - 1;
+        plan.splices[last].1 = 2 * count;
+        assert_eq!(judged(&plan), at(plan.offset(2, last)), "{plan:?}");
+    }
+}
+
 /// Every number of every entry of small plans becomes each near number, each at a limit and each other one of the plan.
 #[test]
 fn every_number_changed() {
