@@ -1,14 +1,19 @@
--- The receiver's endings as words.
+-- The receiver's endings as words, and refusals without a file or entries.
 use mathlib.Core.Path.{_≡_, refl, sym, ap}
 use Prim.Native.Nat.{ℕ, _+_, _*_}
+use lib.ListN.{replicate}
 use Rattle.answer.specs.declared.Refusal.{Refusal}
 use Rattle.answer.specs.declared.Refusal.the-variants.{Plain, Packet, Line, Entry}
 use Rattle.answer.specs.Values.{refusal, numberOf, placeOf}
 use Rattle.receiver.specs.declared.Ending.{Ending}
 use Rattle.receiver.specs.declared.Ending.the-variants.{File, Left, Refused}
 use Rattle.receiver.specs.Receive.{endingValue}
+use Rattle.plan_form.specs.declared.PlanRead.{PlanRead}
+use Rattle.plan_form.specs.declared.PlanRead.the-variants.{Refused as PlanRefused}
+use Rattle.plan_form.specs.Form.{planValue}
 use Rattle.jibrufath.specs.Exports.{beside, packed}
 use Rattle.jibrufath.specs.Packs.{receptionLeft, fileBytes}
+use Rattle.jibrufath.specs.Plans.{entriesIn}
 use Rattle.jibrufath.proofs.Words.{packed-result, refusal-beside, refused-packed}
 
 module _ (e : Ending) where
@@ -44,3 +49,15 @@ no-file (Entry n) = refl
 pub refused-file : (e : Ending) (f : Refusal) → e ≡ Refused f → 0 ≡ fileBytes (endingValue e)
 unfolding endingValue
 refused-file e f q = rw q (no-file f)
+
+-- nor any entries
+no-entries : (f : Refusal) → replicate 3 0 ≡ entriesIn (refusal f)
+unfolding entriesIn refusal
+no-entries (Plain f) = refl
+no-entries (Packet f i) = refl
+no-entries (Line n) = refl
+no-entries (Entry n) = refl
+
+pub refused-entries : (read : PlanRead) (f : Refusal) → read ≡ PlanRefused f → replicate 3 0 ≡ entriesIn (planValue read)
+unfolding planValue
+refused-entries read f q = rw q (no-entries f)

@@ -1,5 +1,5 @@
 -- What comes with a number: all calls but the receiver name no place, so that the word of a refusal is its number; the receiver names one
--- below 2^32.
+-- below 2^45.
 use mathlib.Core.Path.{_≡_, refl, sym}
 use mathlib.Core.Bool.{Bool}
 use mathlib.Core.List.{List}
@@ -64,7 +64,7 @@ write-places (WriteOutcome.write-done _ _ _ _) = refl
 
 -- a packet's index is below the count of its section, and no more cells are left than a cube has
 pub receive-place-lt : {r : ℕ} {p : List ℕ} {m m′ : Memory} {v : Value Reception} {k : Counts} → ReceiveOutcome r p m m′ v k
-    → ((i : ℕ) → getD p i 0 < 256) → beside receptionLeft v < 2 ^ 32
+    → ((i : ℕ) → getD p i 0 < 256) → beside receptionLeft v < 2 ^ 45
 unfolding beside receptionLeft
 receive-place-lt (unopened _ _ (unfit _ _ _ _) _) small = omega arith
 receive-place-lt {p} {m} (unopened _ _ (index h s checks i l _ _ _ _) _) small =

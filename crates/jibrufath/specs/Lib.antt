@@ -2,5 +2,6 @@
 pub mod Exports
 pub mod Lines
 pub mod Packs
+pub mod Plans
 pub mod Needs
 pub mod Inner

@@ -1,4 +1,5 @@
 // The calls on packs: writing one, and receiving one.
+use receiver::Counts;
 use receiver::Ending;
 ghost use mathlib.Core.Path.{_≡_};
 ghost use Prim.Native.Nat.{_<_, _^_};
@@ -6,7 +7,7 @@ ghost use Rattle.field.specs.Field.{reduction};
 ghost use Rattle.writer.specs.Write.{WriteOutcome};
 ghost use Rattle.receiver.specs.Receive.{endingValue, lent, ReceiveOutcome};
 ghost use Rattle.jibrufath.specs.Exports.{Exported, uncounted, beside, packed};
-ghost use Rattle.jibrufath.specs.Packs.{receptionLeft, fileBytes, ReceiveExport};
+ghost use Rattle.jibrufath.specs.Packs.{receptionLeft, fileBytes, places, ReceiveExport};
 
 // Writes the code cube of a job pack's file, and the pack of its packets.
 #[no_mangle]
@@ -30,13 +31,20 @@ pub extern "C" fn jibrufath_receive_pack(
 {
     let received = receiver::receive_pack(air, cube, flags, file);
     let ending = received.ending;
-    let counted = received.counts;
-    *counts = [0; 16];
+    *counts = receive_counts(ending, received.counts);
+    ending_word(ending)
+}
+
+// The receiver's counts in their sixteen places.
+pub(crate) fn receive_counts(ending: Ending, counted: Counts) -> [u64; 16]
+    ensures { λ r. ⌜ r ≡ places (endingValue ending) counted ⌝ }
+{
+    let mut counts = [0u64; 16];
     counts[0] = file_bytes(ending);
     counts[1] = counted.packets as u64;
     counts[2] = counted.repeats as u64;
     counts[13] = counted.conflicts as u64;
-    ending_word(ending)
+    counts
 }
 
 // The bytes of the file that came out, 0 where none did.
@@ -51,8 +59,8 @@ fn file_bytes(ending: Ending) -> u64
 }
 
 // An ending as its word.
-fn ending_word(ending: Ending) -> u64
-    requires { ⌜ beside receptionLeft (endingValue ending) < 2 ^ 32 ⌝ }
+pub(crate) fn ending_word(ending: Ending) -> u64
+    requires { ⌜ beside receptionLeft (endingValue ending) < 2 ^ 45 ⌝ }
     ensures { λ r. ⌜ r ≡ packed receptionLeft (endingValue ending) ⌝ }
 {
     match ending {

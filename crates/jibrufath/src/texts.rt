@@ -1,9 +1,9 @@
 // The calls on texts: the text of an air pack, the air pack of a text, and how much memory each asks for.
-use answer::Answer;
+use crate::answer_word;
 use pack::PackSize;
 ghost use mathlib.Core.Path.{_≡_};
 ghost use Prim.Native.Nat.{_<_, _^_};
-ghost use Rattle.answer.specs.Values.{answerValue, checked};
+ghost use Rattle.answer.specs.Values.{checked};
 ghost use Rattle.pack.specs.Writing.{sizeValue};
 ghost use Rattle.text.specs.Text.{WriteTextOutcome, ReadTextOutcome, PackSizeOutcome, textSizeChecked};
 ghost use Rattle.jibrufath.specs.Exports.{Exported, uncounted, whole, beside, packed};
@@ -38,17 +38,6 @@ pub extern "C" fn jibrufath_text_pack_bytes(text: &[u8]) -> u64
     ensures { λ r. ⌜ Exported whole (PackSizeOutcome (now (text .entry))) r ⌝ }
 {
     size_word(text::text_pack_bytes(text))
-}
-
-// The word of an answer that carries no count.
-fn answer_word(answer: Answer) -> u64
-    requires { ⌜ beside uncounted (answerValue answer) < 2 ^ 45 ⌝ }
-    ensures { λ r. ⌜ r ≡ packed uncounted (answerValue answer) ⌝ }
-{
-    match answer {
-        Answer::Done => 0,
-        Answer::Refused(f) => crate::refusal_word(f),
-    }
 }
 
 // The word of a size.

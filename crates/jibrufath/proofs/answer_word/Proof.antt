@@ -1,11 +1,11 @@
--- `jibrufath::texts::answer_word` meets its contract.
+-- `jibrufath::answer_word` meets its contract.
 use mathlib.Core.Path.{ap}
 use Rattle.answer.specs.Values.{answerValue, numberOf}
 use Rattle.jibrufath.specs.Exports.{uncounted, beside, packed}
 use Rattle.jibrufath.proofs.Words.{refused-place, refused-packed}
 use borrow.Author.Needs.{needs}
-use Rattle.jibrufath.proofs.texts.answer_word.Statement.{statement}
-use Rattle.jibrufath.proofs.texts.answer_word.Tie as tie
+use Rattle.jibrufath.proofs.answer_word.Statement.{statement}
+use Rattle.jibrufath.proofs.answer_word.Tie as tie
 
 enum-told : tie.Need-enum-told
 enum-told c = search needs
