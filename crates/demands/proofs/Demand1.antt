@@ -1,7 +1,7 @@
 -- Demand 1, from the contracts alone: each outcome of each call is a result or one of its refusals.
 use mathlib.Core.Path.{_≡_, refl, sym, _∙_}
 use mathlib.Core.Bool.{Bool, false, false≢true}
-use mathlib.Core.List.{List}
+use mathlib.Core.List.{List, [], _∷_}
 use Prim.Native.Nat.{ℕ}
 use native.Mathlib.Omega.{arith}
 use lib.ListN.{length}
@@ -23,9 +23,13 @@ use Rattle.receiver.specs.Gathering.{Reception, unfit, index, contradiction, so
 use Rattle.receiver.specs.Opening.{bad}
 use Rattle.receiver.specs.Receive.{Memory, ReceiveOutcome, unopened, bad-file, opened}
 use Rattle.text.specs.Text.{textSizeChecked, WriteTextOutcome, ReadTextOutcome, PackSizeOutcome, size-broken, size-checked}
+use Rattle.plan_form.specs.declared.PlanCounts.{PlanCounts}
+use Rattle.plan_form.specs.Form.{Plan, FormOutcome, formed, broken, planEnd, planIn, Lists, countsOf, planOf}
+use Rattle.plan.specs.Calls.{WritePlanOutcome, write-inexact, write-broken, written, ReadPlanOutcome, read-broken, read-short, read-shown}
+use Rattle.plan.specs.Receiving.{noEntries, ReceivePlanOutcome, no-file, no-plan, no-room, shown}
 use Rattle.demands.specs.Ends.{isOneOf, OneOf, placed, keeping, Ends, in-result, in-refusal, in-place, Keeps, OnlyReads}
-use Rattle.demands.specs.Demand1.{shapeNumbers, cubeNumbers, fillNumbers, mendNumbers, headerNumbers, packNumbers, writerNumbers, receiverNumbers, airNumbers, startNumbers, writeTextNumbers, readTextNumbers, textPackNumbers, FillLeaves, MendLeaves, ReceiveLeaves, Demand1}
-use Rattle.demands.proofs.Numbers.{Plain, shape-number, size-number, line-number, scan-number, slices-number, cube-number, write-air-number, axis-number, read-number, fill-number, mend-number, header-number, job-number, air-number, write-number, receive-number, air-size-number, text-pack-number, start-number, read-text-number, text-size-number, write-text-number}
+use Rattle.demands.specs.Demand1.{shapeNumbers, cubeNumbers, fillNumbers, mendNumbers, headerNumbers, packNumbers, writerNumbers, receiverNumbers, airNumbers, startNumbers, writeTextNumbers, readTextNumbers, textPackNumbers, receivePlanNumbers, readPlanNumbers, writePlanNumbers, formNumbers, FillLeaves, MendLeaves, ReceiveLeaves, of-receiver, of-file, PlanLeaves, Demand1}
+use Rattle.demands.proofs.Numbers.{Plain, shape-number, size-number, line-number, scan-number, slices-number, cube-number, write-air-number, axis-number, read-number, fill-number, mend-number, header-number, job-number, air-number, write-number, receive-number, air-size-number, text-pack-number, start-number, read-text-number, text-size-number, write-text-number, one-of-more}
 
 -- ---- numbers
 
@@ -179,6 +183,50 @@ pack-size-ends t _ (size-broken n b) = in-place 17 n refl refl tt
 pack-size-ends t _ (size-checked sh ks f x) =
     checks-end textPackNumbers (airSizeChecked sh (length ks)) (λ n. text-pack-number n sh (length ks))
 
+-- ---- plans
+
+-- the receiver's numbers are the plan receiver's
+more-numbers : (n : ℕ) → OneOf receiverNumbers n → OneOf receivePlanNumbers n
+unfolding OneOf receiverNumbers receivePlanNumbers
+more-numbers n = one-of-more n (6 ∷ 7 ∷ 1 ∷ 2 ∷ 3 ∷ 10 ∷ 9 ∷ 8 ∷ 4 ∷ 11 ∷ 13 ∷ 14 ∷ []) (18 ∷ [])
+
+module _ (p : List ℕ) (m m′ : Memory) (l : Lists) where
+  passed-ends : (value : Value Reception) (counts : Counts) → ReceiveOutcome reduction p m m′ value counts
+      → Ends receiverNumbers (ReceiveLeaves p m m′ counts) value → Ends receivePlanNumbers (PlanLeaves p m m′ l l counts noEntries) value
+  passed-ends _ counts o (in-result a) = in-result a
+  passed-ends _ counts o (in-refusal n listed plain leaves) =
+      in-refusal n (more-numbers n listed) plain (record { memory = of-receiver leaves; lists = refl; no-counts = leaves .no-counts; no-entries = refl })
+  passed-ends _ counts o (in-place n i listed place leaves) =
+      in-place n i (more-numbers n listed) place (record { memory = of-receiver leaves; lists = refl; no-counts = leaves .no-counts; no-entries = refl })
+
+receive-plan-ends : (p : List ℕ) (m m′ : Memory) (l l′ : Lists) (value : Value Reception) (counts : Counts) (entries : PlanCounts)
+    → ReceivePlanOutcome reduction p m m′ l l′ value counts entries → Ends receivePlanNumbers (PlanLeaves p m m′ l l′ counts entries) value
+unfolding OneOf isOneOf placed receivePlanNumbers
+receive-plan-ends p m m′ l l′ _ _ _ (no-file value counts o none e) = rw e (passed-ends p m m′ l value counts o (receive-ends p m m′ value counts o))
+receive-plan-ends p m m′ l l′ _ _ _ (no-plan n k o at (read-broken _ _ e)) =
+    in-place 18 at refl refl (record { memory = of-file refl n k o; lists = e; no-counts = refl; no-entries = refl })
+receive-plan-ends p m m′ l l′ _ _ _ (no-room n k o (read-short _ _ e)) =
+    in-refusal 4 refl refl (record { memory = of-file refl n k o; lists = e; no-counts = refl; no-entries = refl })
+receive-plan-ends p m m′ l l′ _ _ _ (shown n k o e _) = in-result _
+
+read-plan-ends : (f : List ℕ) (l l′ : Lists) (value : Value PlanCounts) → ReadPlanOutcome f l l′ value → Ends readPlanNumbers (λ n. l′ ≡ l) value
+unfolding OneOf isOneOf placed readPlanNumbers
+read-plan-ends f l l′ _ (read-broken at _ e) = in-place 18 at refl refl e
+read-plan-ends f l l′ _ (read-short _ _ e) = in-refusal 4 refl refl e
+read-plan-ends f l l′ _ (read-shown _ _ _) = in-result _
+
+write-plan-ends : (l : Lists) (before after : List ℕ) (value : Value Unit) → WritePlanOutcome l before after value
+    → Ends writePlanNumbers (Keeps before after) value
+unfolding OneOf isOneOf placed writePlanNumbers
+write-plan-ends l before after _ (write-inexact _ e) = in-refusal 4 refl refl e
+write-plan-ends l before after _ (write-broken _ at _ e) = in-place 18 at refl refl e
+write-plan-ends l before after _ (written _ _ _) = in-result tt
+
+form-ends : {A : Type 0} (P : Plan) (len : ℕ) (a : A) (value : Value A) → FormOutcome P len a value → Ends formNumbers OnlyReads value
+unfolding OneOf isOneOf placed formNumbers
+form-ends P len a _ (formed _) = in-result a
+form-ends P len a _ (broken at _) = in-place 18 at refl refl tt
+
 pub demand1 : Demand1
 demand1 =
     record {
@@ -191,6 +239,11 @@ demand1 =
       read-text = read-text-ends;
       text-bytes = λ p. checked-ends packNumbers (textSizeChecked p) (λ n. text-size-number n p);
       text-pack-bytes = pack-size-ends;
+      receive-plan = receive-plan-ends;
+      read-plan = read-plan-ends;
+      write-plan = write-plan-ends;
+      measure-plan = λ f. form-ends (planIn f) (length f) (planIn f .counts);
+      check-lists = λ l. form-ends (planOf l) (planEnd (countsOf l)) tt;
       encode = encode-ends;
       extract = extract-ends;
       read-data = read-ends;

@@ -1,8 +1,9 @@
 -- The numbers by which each call's checks fail: they are in its list, none names a place, and all of them change no lent byte.
 use mathlib.Core.Path.{_≡_, refl}
-use mathlib.Core.Bool.{Bool, true, false, not}
-use mathlib.Core.List.{List}
+use mathlib.Core.Bool.{Bool, true, false, cond, not, false≢true}
+use mathlib.Core.List.{List, [], _∷_, _++_}
 use Prim.Native.Nat.{ℕ}
+use lib.Dec.{eqb}
 use lib.ListN.{length}
 use borrow.Author.Tests.{not-true}
 use Rattle.answer.specs.Values.{Checked, passes, fails, check, andThen}
@@ -25,6 +26,16 @@ use Rattle.text.specs.Text.{textIn, textSizeChecked, writeTextChecked}
 use Rattle.demands.specs.Demand1.{shapeNumbers, cubeNumbers, fillNumbers, mendNumbers, headerNumbers, packNumbers, writerNumbers, receiverNumbers, airNumbers, startNumbers, writeTextNumbers, readTextNumbers, textPackNumbers}
 use Rattle.demands.specs.Demand2.{earlyNumbers}
 use Rattle.demands.specs.Ends.{isOneOf, OneOf, placed, keeping}
+
+-- a number of a list is one of any longer list
+cond-more : (b : Bool) {x y : Bool} → (x ≡ true → y ≡ true) → cond b true x ≡ true → cond b true y ≡ true
+cond-more true f q = refl
+cond-more false f q = f q
+
+pub one-of-more : (n : ℕ) (ms more : List ℕ) → isOneOf ms n ≡ true → isOneOf (ms ++ more) n ≡ true
+unfolding isOneOf
+one-of-more n [] more e = absurd (false≢true e)
+one-of-more n (m ∷ ms) more e = cond-more (eqb m n) (one-of-more n ms more) e
 
 -- a number of a list that names no place and changes no lent byte
 pub record Plain (numbers : List ℕ) (n : ℕ) : Type 0 where

@@ -26,8 +26,12 @@ use Rattle.pack.specs.Reading.{headerOf, jobOf, airOf}
 use Rattle.pack.specs.Writing.{sizeChecked, airSizeChecked, StartOutcome, AirOutcome}
 use Rattle.writer.specs.Write.{WriteOutcome}
 use Rattle.receiver.specs.declared.Counts.{Counts}
-use Rattle.receiver.specs.Gathering.{Reception, noCounts}
+use Rattle.receiver.specs.Gathering.{Reception, file, noCounts}
 use Rattle.receiver.specs.Receive.{Memory, ReceiveOutcome}
+use Rattle.plan_form.specs.declared.PlanCounts.{PlanCounts}
+use Rattle.plan_form.specs.Form.{FormOutcome, planEnd, planIn, Lists, countsOf, planOf}
+use Rattle.plan.specs.Calls.{WritePlanOutcome, ReadPlanOutcome}
+use Rattle.plan.specs.Receiving.{noEntries, ReceivePlanOutcome}
 use Rattle.text.specs.Text.{textSizeChecked, WriteTextOutcome, ReadTextOutcome, PackSizeOutcome}
 use Rattle.demands.specs.Ends.{OneOf, keeping, Ends, Keeps, OnlyReads}
 use Rattle.demands.specs.Placed.{BeforeFilling}
@@ -58,6 +62,22 @@ pub record ReceiveLeaves (p : List ℕ) (m m′ : Memory) (counts : Counts) (n :
   pub buffer : m′ .buffer ≡ m .buffer
   -- "all counts with it are 0"
   pub no-counts : counts ≡ noCounts
+
+-- Request P4: what a refusal leaves where a pack's plan is not shown. The receiver's own are as they were; with 18, and with the 4 of a list too
+-- short, "the receiver's memory stands as File leaves it".
+pub data PlanMemory (p : List ℕ) (m m′ : Memory) (counts : Counts) (n : ℕ) : Type 0 where
+  of-receiver : ReceiveLeaves p m m′ counts n → PlanMemory p m m′ counts n
+  of-file :
+      OneOf (18 ∷ 4 ∷ []) n → (length : ℕ) (k : Counts) → ReceiveOutcome reduction p m m′ (gives (file length)) k →
+      PlanMemory p m m′ counts n
+
+pub record PlanLeaves (p : List ℕ) (m m′ : Memory) (l l′ : Lists) (counts : Counts) (entries : PlanCounts) (n : ℕ) : Type 0 where
+  pub memory : PlanMemory p m m′ counts n
+  -- "otherwise no list changes"
+  pub lists : l′ ≡ l
+  -- "all counts with it are 0"
+  pub no-counts : counts ≡ noCounts
+  pub no-entries : entries ≡ noEntries
 
 -- ---- the numbers that a call can give, in the table's order
 
@@ -107,6 +127,19 @@ readTextNumbers = 17 ∷ 1 ∷ 2 ∷ 3 ∷ 10 ∷ 4 ∷ 11 ∷ []
 unfoldable pub textPackNumbers : List ℕ
 textPackNumbers = 17 ∷ 1 ∷ 2 ∷ 3 ∷ 10 ∷ []
 
+-- request P4: "18, …, after 14; then 4, a lent list too short"; the writer: "4 before its 18"
+unfoldable pub receivePlanNumbers : List ℕ
+receivePlanNumbers = 6 ∷ 7 ∷ 1 ∷ 2 ∷ 3 ∷ 10 ∷ 9 ∷ 8 ∷ 4 ∷ 11 ∷ 13 ∷ 14 ∷ 18 ∷ []
+
+unfoldable pub readPlanNumbers : List ℕ
+readPlanNumbers = 18 ∷ 4 ∷ []
+
+unfoldable pub writePlanNumbers : List ℕ
+writePlanNumbers = 4 ∷ 18 ∷ []
+
+unfoldable pub formNumbers : List ℕ
+formNumbers = 18 ∷ []
+
 -- ---- the demand, call by call
 
 pub record Demand1 : Type 0 where
@@ -134,6 +167,22 @@ pub record Demand1 : Type 0 where
       (p : List ℕ) (value : Value ℕ) → value ≡ checked (textSizeChecked p) → Ends packNumbers OnlyReads value
   pub text-pack-bytes :
       (t : List ℕ) (value : Value ℕ) → PackSizeOutcome t value → Ends textPackNumbers OnlyReads value
+  -- request P4: a plan received, read, measured and written
+  pub receive-plan :
+      (p : List ℕ) (m m′ : Memory) (l l′ : Lists) (value : Value Reception) (counts : Counts) (entries : PlanCounts) →
+      ReceivePlanOutcome reduction p m m′ l l′ value counts entries →
+      Ends receivePlanNumbers (PlanLeaves p m m′ l l′ counts entries) value
+  pub read-plan :
+      (f : List ℕ) (l l′ : Lists) (value : Value PlanCounts) → ReadPlanOutcome f l l′ value →
+      Ends readPlanNumbers (λ n. l′ ≡ l) value
+  pub write-plan :
+      (l : Lists) (before after : List ℕ) (value : Value Unit) → WritePlanOutcome l before after value →
+      Ends writePlanNumbers (Keeps before after) value
+  pub measure-plan :
+      (f : List ℕ) (value : Value PlanCounts) → FormOutcome (planIn f) (length f) (planIn f .counts) value →
+      Ends formNumbers OnlyReads value
+  pub check-lists :
+      (l : Lists) (value : Value Unit) → FormOutcome (planOf l) (planEnd (countsOf l)) tt value → Ends formNumbers OnlyReads value
   -- "The same goes for a cube or buffer handed to any public call"
   pub encode :
       (sh : Shape) (ds before after : List ℕ) (value : Value Unit) → EncodeOutcome reduction sh ds before after value →

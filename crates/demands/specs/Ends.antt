@@ -15,9 +15,10 @@ isOneOf (m ∷ ms) n = cond (eqb m n) true (isOneOf ms n)
 unfoldable pub OneOf : List ℕ → ℕ → Type 0
 OneOf ns n = isOneOf ns n ≡ true
 
--- "A refusal names its number and, for a packet, the packet's index from 0": that of a packet is 11. Request P1: 17 names a line of a text.
+-- "A refusal names its number and, for a packet, the packet's index from 0": that of a packet is 11. Request P1: 17 names a line of a text;
+-- request P4: 18 an offset in the file of a plan.
 unfoldable pub placed : List ℕ
-placed = 11 ∷ 17 ∷ []
+placed = 11 ∷ 17 ∷ 18 ∷ []
 
 -- "Numbers 1 to 11 and 15 change no lent byte, nor does a number added later unless its request says so."
 unfoldable pub keeping : List ℕ

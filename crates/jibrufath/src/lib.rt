@@ -31,10 +31,10 @@ pub(crate) fn answer_word(answer: Answer) -> u64
     requires { ⌜ beside uncounted (answerValue answer) < 2 ^ 45 ⌝ }
     ensures { λ r. ⌜ r ≡ packed uncounted (answerValue answer) ⌝ }
 {
-    match answer {
-        Answer::Done => 0,
-        Answer::Refused(f) => refusal_word(f),
-    }
+    let Answer::Refused(f) = answer else {
+        return 0;
+    };
+    refusal_word(f)
 }
 
 // The word of a refusal: its number, and above it the place that it names.
