@@ -10,6 +10,8 @@ mod Sent
 -- Heard: a list of packets as the receiver reads them.
 mod Heard
 pub mod Demand3
+-- Plans: a plan written, packed and heard.
+pub mod Plans
 -- Corollaries: few lost cells come back.
 pub mod Corollaries
 -- Differing: lists in which copies of a cell differ.
