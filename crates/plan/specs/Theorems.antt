@@ -9,6 +9,7 @@ use Rattle.field.specs.Field.{Primitive}
 use Rattle.receiver.specs.declared.Counts.{Counts}
 use Rattle.receiver.specs.Gathering.{Reception}
 use Rattle.receiver.specs.Receive.{Memory}
+use Rattle.receiver.specs.Theorems.{NothingLeftOpen}
 use Rattle.plan_form.specs.declared.PlanCounts.{PlanCounts}
 use Rattle.plan_form.specs.Form.{Lists, lists, countsOf}
 use Rattle.plan.specs.Calls.{WritePlanOutcome, Room, listsBegun, ReadPlanOutcome}
@@ -53,8 +54,10 @@ unfoldable pub ReadDetermined : Type 0
 ReadDetermined =
     (f : List ℕ) (l a b : Lists) (v w : Value PlanCounts) → ReadPlanOutcome f l a v → ReadPlanOutcome f l b w → (v ≡ w) × (a ≡ b)
 
+-- What comes before reading, the receiver's theorem determines: it is a hypothesis here, for a crate above the receiver cites its definitions alone, and
+-- the crate `demands` discharges it.
 unfoldable pub ReceiveDetermined : Type 0
 ReceiveDetermined =
-    (r : ℕ) → Primitive r → (p : List ℕ) (m a b : Memory) (l x y : Lists) (v w : Value Reception) (k j : Counts) (e d : PlanCounts) →
+    NothingLeftOpen → (r : ℕ) → Primitive r → (p : List ℕ) (m a b : Memory) (l x y : Lists) (v w : Value Reception) (k j : Counts) (e d : PlanCounts) →
     ReceivePlanOutcome r p m a l x v k e → ReceivePlanOutcome r p m b l y w j d →
     (v ≡ w) × (k ≡ j) × (e ≡ d) × (a ≡ b) × (x ≡ y)
