@@ -126,7 +126,7 @@ drop-step q k m e l = rw (e, add-one k) (drop-cons q k 0 l)
 
 module _ (q : List ℕ) (small : (i : ℕ) → getD q i 0 < 256) where
   -- four bytes of a pack are those of the word that they hold
-  word-laid : (k : ℕ) → k + 4 ≤ length q → drop k q ≡ wordBytes (word q k) ++ drop (k + 4) q
+  pub word-laid : (k : ℕ) → k + 4 ≤ length q → drop k q ≡ wordBytes (word q k) ++ drop (k + 4) q
   unfolding word
   word-laid k room =
       rw (

@@ -12,12 +12,12 @@ use Rattle.answer.specs.declared.Answer.the-variants.{Refused as Stopped, Done}
 use Rattle.answer.specs.Refusals.{faultNumber}
 use Rattle.answer.specs.Values.{Value, gives, refused-at, refusal, answerValue}
 use Rattle.answer.proofs.Values.{gives-injective, refusal-gives, refusal-injective}
-use Rattle.pack.proofs.Laying.{part-length}
 use Rattle.plan_form.specs.declared.PlanCounts.{PlanCounts}
 use Rattle.plan_form.specs.declared.PlanRead.{PlanRead}
 use Rattle.plan_form.specs.declared.PlanRead.the-variants.{Counted, Refused}
-use Rattle.plan_form.specs.Form.{Plan, planEnd, Broken, IsPlan, FormOutcome, formed, broken, planWith, closuresIn, fibresIn, splicesIn, planIn, planValue, Lists, lists, countsOf, planOf, planBytes, section, listsIn}
+use Rattle.plan_form.specs.Form.{Plan, planEnd, Broken, IsPlan, FormOutcome, formed, broken, planWith, planIn, planValue, Lists, lists, countsOf, planOf, planBytes, section, listsIn}
 use Rattle.plan.specs.Calls.{Exact, WritePlanOutcome, write-inexact, write-broken, written, Room, begun, listsBegun, ReadPlanOutcome, read-broken, read-short, read-shown}
+use Rattle.plan.proofs.Sections.{closures-size, fibres-size, splices-size}
 
 -- ---- what judges a plan
 
@@ -71,13 +71,13 @@ module _ (f : List ℕ) (r : PlanRead) (o : FormOutcome (planIn f) (length f) (p
 
     -- the sections have the lengths that their counts say
     section-lengths : (length (listsIn f .closures) ≡ 2 * n .closures) × (length (listsIn f .fibres) ≡ 4 * n .fibres) × (length (listsIn f .splices) ≡ 8 * n .splices)
-    unfolding listsIn section planIn planWith planEnd
+    unfolding planIn planWith
     section-lengths =
         let same = counted .1 in
         let ends = counted .0 .ends in (
-          part-length f 4 (2 * closuresIn f) (omega arith) ∙ ap (λ (m : PlanCounts). 2 * m .closures) (sym same),
-          part-length f (8 + 2 * closuresIn f) (4 * fibresIn f) (omega arith) ∙ ap (λ (m : PlanCounts). 4 * m .fibres) (sym same),
-          part-length f (12 + 2 * closuresIn f + 4 * fibresIn f) (8 * splicesIn f) (omega arith) ∙ ap (λ (m : PlanCounts). 8 * m .splices) (sym same),
+          closures-size f ends ∙ ap (λ (m : PlanCounts). 2 * m .closures) (sym same),
+          fibres-size f ends ∙ ap (λ (m : PlanCounts). 4 * m .fibres) (sym same),
+          splices-size f ends ∙ ap (λ (m : PlanCounts). 8 * m .splices) (sym same),
         )
 
     module _ (cs fs ss : List ℕ) where

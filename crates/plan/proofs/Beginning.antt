@@ -56,12 +56,12 @@ module _ (cs fs ss : List ℕ) where
   abbrev third : List ℕ
   third = wordBytes (length ss / 8) ++ ss
 
-  sections-size : length ((first ++ second) ++ third) ≡ 12 + length cs + length fs + length ss
+  pub sections-size : length ((first ++ second) ++ third) ≡ 12 + length cs + length fs + length ss
   sections-size =
       omega
       (arith, length-append (first ++ second) third, length-append first second, section-size (length cs / 2) cs, section-size (length fs / 4) fs, section-size (length ss / 8) ss)
 
-  sections-joined : (first ++ second) ++ third ≡ planBytes (lists cs fs ss)
+  pub sections-joined : (first ++ second) ++ third ≡ planBytes (lists cs fs ss)
   unfolding planBytes countsOf
   sections-joined = simp append-assoc
 

@@ -1,7 +1,10 @@
--- Why the crate `plan` meets its contracts: entries at the start of a list (`Beginning`), from the calls below to the outcomes on plans (`Answers`) and of receiving (`Passing`); that no plan is shown where a place is
--- left (`NoneLeft`), and that the contracts determine everything (`Determined`).
+-- Why the crate `plan` meets its contracts: entries at the start of a list, and sections one behind the other (`Beginning`), a file and its sections (`Sections`), from what the calls below answer to the outcomes of
+-- the calls on plans (`Answers`) and of receiving one (`Passing`); and why its theorems hold: the writer and the reader undo each other (`RoundTrip`), no plan is shown where a place is left (`NoneLeft`), and
+-- the contracts determine answers and lists (`Determined`).
 pub mod Beginning
+pub mod Sections
 pub mod Answers
 pub mod Passing
+pub mod RoundTrip
 pub mod NoneLeft
 pub mod Determined
