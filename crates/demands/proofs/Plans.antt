@@ -1,4 +1,4 @@
--- A plan that was written, packed and heard with losses, from the third demand and the plan's round trip.
+-- A plan that was written, packed and heard with losses, from the third demand and the plan's round trip; and that receiving one is determined.
 use mathlib.Core.Path.{_≡_, refl, sym, ap, subst, _∙_}
 use mathlib.Core.List.{List, _++_}
 use Prim.Native.Nat.{ℕ}
@@ -14,11 +14,14 @@ use Rattle.pack.specs.Packs.{Packet, airPack}
 use Rattle.receiver.specs.declared.Counts.{Counts}
 use Rattle.receiver.specs.Gathering.{Reception, file}
 use Rattle.receiver.specs.Receive.{Memory, ReceiveOutcome}
+use Rattle.receiver.proofs.Determined.{nothing-left-open}
 use Rattle.plan_form.specs.declared.PlanCounts.{PlanCounts}
 use Rattle.plan_form.specs.Form.{Lists, countsOf}
 use Rattle.plan.specs.Calls.{WritePlanOutcome, Room, listsBegun, ReadPlanOutcome}
 use Rattle.plan.specs.Receiving.{ReceivePlanOutcome, no-file, no-plan, no-room, shown}
-use Rattle.plan.specs.Theorems.{ListBytes, UndoWrite}
+use Rattle.plan.specs.Theorems.{ListBytes, UndoWrite, PlanNothingLeftOpen, ReceiveDetermined}
+use Rattle.plan.proofs.RoundTrip.{undo-write}
+use Rattle.plan.proofs.Determined.{receive-determined}
 use Rattle.demands.specs.Demand3.{Wrote, Heard, lost, OnlyEmpty, Lent, leftIn, Exact, Demand3, Demanded}
 use Rattle.demands.specs.Plans.{PlanBack, PlanKept, PlanDemand}
 use Rattle.demands.proofs.Demand3.{demand3}
@@ -28,7 +31,7 @@ Claim sh ps l size lent lent′ value entries =
     (OnlyEmpty sh (lost sh ps) → PlanBack l lent lent′ size value entries)
     × ((OnlyEmpty sh (lost sh ps) → ⊥) → PlanKept lent lent′ value entries)
 
-module _ (undo : UndoWrite) (l : Lists) (before f : List ℕ) (small : ListBytes l) (plan : WritePlanOutcome l before f (gives tt)) {sh : Shape} {x : List ℕ} {ps : List Packet}
+module _ (l : Lists) (before f : List ℕ) (small : ListBytes l) (plan : WritePlanOutcome l before f (gives tt)) {sh : Shape} {x : List ℕ} {ps : List Packet}
     {m m′ : Memory} where
   -- ---- where the receiver has a file
 
@@ -47,7 +50,7 @@ module _ (undo : UndoWrite) (l : Lists) (before f : List ℕ) (small : ListBytes
     plan-read : {lent lent′ : Lists} (v : Value PlanCounts) → Room l lent → ReadPlanOutcome (take n (m′ .buffer)) lent lent′ v
         → (v ≡ gives (countsOf l)) × (lent′ ≡ listsBegun l lent)
     unfolding UndoWrite
-    plan-read v room read = undo l before f _ _ v small plan room (rw (file-same .1) at read)
+    plan-read v room read = undo-write l before f _ _ v small plan room (rw (file-same .1) at read)
 
   -- ---- each outcome
 
@@ -70,12 +73,17 @@ module _ (undo : UndoWrite) (l : Lists) (before f : List ℕ) (small : ListBytes
         λ some. absurd (some (nothing-lost n k e)),
       )
 
-pub plan-demand : UndoWrite → PlanDemand
+pub plan-demand : PlanDemand
 unfolding PlanDemand Demand3 Demanded
-plan-demand undo l before f small plan p sh x output wrote =
+plan-demand l before f small plan p sh x output wrote =
     let (s, all, claim) = demand3 p sh f x output wrote in (
       s,
       all,
       λ ps m m′ lent lent′ value counts entries sent sizes room o.
-          heard undo l before f small plan (λ v k. claim ps m m′ v k sent sizes) room o,
+          heard l before f small plan (λ v k. claim ps m m′ v k sent sizes) room o,
     )
+
+-- the contract of receiving a plan leaves nothing open, as the receiver's does not
+pub plan-nothing-left-open : PlanNothingLeftOpen
+unfolding ReceiveDetermined
+plan-nothing-left-open = receive-determined nothing-left-open

@@ -17,7 +17,7 @@ use Rattle.plan_form.specs.Theorems.{OneBroken, BrokenOrPlan}
 use Rattle.plan_form.proofs.OnePlace.{one-broken, broken-or-plan}
 use Rattle.plan.specs.Calls.{write-inexact, write-broken, written, ReadPlanOutcome, read-broken, read-short, read-shown}
 use Rattle.plan.specs.Receiving.{noEntries, ReceivePlanOutcome, no-file, no-plan, no-room, shown}
-use Rattle.plan.specs.Theorems.{WriteDetermined, ReadDetermined, ReceiveDetermined}
+use Rattle.plan.specs.Theorems.{WriteDetermined, ReadDetermined, PlanNothingLeftOpen, ReceiveDetermined}
 
 pub write-determined : WriteDetermined
 unfolding WriteDetermined OneBroken BrokenOrPlan
@@ -93,7 +93,7 @@ module _ (one : NothingLeftOpen) {r : ℕ} (primitive : Primitive r) {p : List �
   stage-same (reading n k o u read) (reading n′ j o′ u′ read′) = reading-same n n′ k j o o′ u u′ read read′
 
 pub receive-determined : ReceiveDetermined
-unfolding ReceiveDetermined
+unfolding ReceiveDetermined PlanNothingLeftOpen
 receive-determined one r primitive p m a b l x y v w k j e d o o′ =
     let (answers, memory, shows) = stage-same one primitive (stage o) (stage o′) in (
       ap (λ (t : Value Reception × Counts × PlanCounts). t .0) answers,

@@ -54,10 +54,12 @@ unfoldable pub ReadDetermined : Type 0
 ReadDetermined =
     (f : List ℕ) (l a b : Lists) (v w : Value PlanCounts) → ReadPlanOutcome f l a v → ReadPlanOutcome f l b w → (v ≡ w) × (a ≡ b)
 
--- What comes before reading, the receiver's theorem determines: it is a hypothesis here, for a crate above the receiver cites its definitions alone, and
--- the crate `demands` discharges it.
-unfoldable pub ReceiveDetermined : Type 0
-ReceiveDetermined =
-    NothingLeftOpen → (r : ℕ) → Primitive r → (p : List ℕ) (m a b : Memory) (l x y : Lists) (v w : Value Reception) (k j : Counts) (e d : PlanCounts) →
+unfoldable pub PlanNothingLeftOpen : Type 0
+PlanNothingLeftOpen =
+    (r : ℕ) → Primitive r → (p : List ℕ) (m a b : Memory) (l x y : Lists) (v w : Value Reception) (k j : Counts) (e d : PlanCounts) →
     ReceivePlanOutcome r p m a l x v k e → ReceivePlanOutcome r p m b l y w j d →
     (v ≡ w) × (k ≡ j) × (e ≡ d) × (a ≡ b) × (x ≡ y)
+
+-- The receiver's own theorem is a hypothesis here, since this crate cites the receiver's definitions alone; the crate `demands` discharges it.
+unfoldable pub ReceiveDetermined : Type 0
+ReceiveDetermined = NothingLeftOpen → PlanNothingLeftOpen
