@@ -1,6 +1,6 @@
 -- A plan that was written, packed and heard with losses, from the third demand and the plan's round trip; and that receiving one is determined.
-use mathlib.Core.Path.{_≡_, refl, sym, ap, subst, _∙_}
-use mathlib.Core.List.{List, _++_}
+use mathlib.Core.Path.{_≡_, refl, ap}
+use mathlib.Core.List.{List}
 use Prim.Native.Nat.{ℕ}
 use native.Mathlib.Omega.{arith}
 use lib.ListN.{length, take, drop}
@@ -9,7 +9,6 @@ use Rattle.answer.specs.Values.{Value, gives}
 use Rattle.answer.proofs.Values.{gives-injective}
 use Rattle.field.specs.Field.{reduction}
 use Rattle.shape.specs.declared.Shape.{Shape}
-use Rattle.pack.specs.declared.Section.{Section}
 use Rattle.pack.specs.Packs.{Packet, airPack}
 use Rattle.receiver.specs.declared.Counts.{Counts}
 use Rattle.receiver.specs.Gathering.{Reception, file}
@@ -22,7 +21,7 @@ use Rattle.plan.specs.Receiving.{ReceivePlanOutcome, no-file, no-plan, no-room,
 use Rattle.plan.specs.Theorems.{ListBytes, UndoWrite, PlanNothingLeftOpen, ReceiveDetermined}
 use Rattle.plan.proofs.RoundTrip.{undo-write}
 use Rattle.plan.proofs.Determined.{receive-determined}
-use Rattle.demands.specs.Demand3.{Wrote, Heard, lost, OnlyEmpty, Lent, leftIn, Exact, Demand3, Demanded}
+use Rattle.demands.specs.Demand3.{lost, OnlyEmpty, leftIn, Exact, Demand3, Demanded}
 use Rattle.demands.specs.Plans.{PlanBack, PlanKept, PlanDemand}
 use Rattle.demands.proofs.Demand3.{demand3}
 

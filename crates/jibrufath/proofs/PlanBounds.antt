@@ -1,5 +1,4 @@
 -- What the calls on plans name fits a word: an offset is below 2^45.
-use mathlib.Core.Path.{_≡_, ap, _∙_}
 use mathlib.Core.List.{List}
 use Prim.Native.Nat.{ℕ, _^_, _<_}
 use native.Mathlib.Omega.{arith}

@@ -10,7 +10,7 @@ use Rattle.answer.specs.declared.Fault.the-variants.{SliceLength}
 use Rattle.answer.specs.declared.Answer.{Answer}
 use Rattle.answer.specs.declared.Answer.the-variants.{Refused as Stopped, Done}
 use Rattle.answer.specs.Refusals.{faultNumber}
-use Rattle.answer.specs.Values.{Value, gives, refused-at, refusal, answerValue}
+use Rattle.answer.specs.Values.{Value, gives, refusal, answerValue}
 use Rattle.answer.proofs.Values.{gives-injective, refusal-gives, refusal-injective}
 use Rattle.plan_form.specs.declared.PlanCounts.{PlanCounts}
 use Rattle.plan_form.specs.declared.PlanRead.{PlanRead}

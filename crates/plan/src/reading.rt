@@ -2,7 +2,7 @@
 use plan_form::PlanCounts;
 ghost use mathlib.Core.Path.{_≡_};
 ghost use Prim.Native.Nat.{_+_, _*_, _≤_};
-ghost use lib.ListN.{length, drop};
+ghost use lib.ListN.{length};
 ghost use Rattle.span.specs.Decision.{Decides};
 ghost use Rattle.plan_form.specs.Form.{planEnd, section, lists};
 ghost use Rattle.plan.specs.Calls.{begun};

@@ -1,6 +1,6 @@
 -- Fibres that keep their rules: pairs ascend along any distance, so closures do not descend and no pair stands twice.
-use mathlib.Core.Path.{_≡_, sym}
-use mathlib.Core.Logic.{_≢_, _⊎_, inl, inr}
+use mathlib.Core.Path.{_≡_}
+use mathlib.Core.Logic.{_≢_, inl, inr}
 use Prim.Native.Nat.{ℕ, zero, suc, _+_, _-_, _≤_, _<_}
 use native.Mathlib.Omega.{arith}
 use Rattle.plan_form.specs.Entries.{Entries, closureAt, ClosureRule, closureOf, fibreNumber, Precedes, FibreRule}

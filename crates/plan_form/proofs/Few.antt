@@ -5,7 +5,7 @@ use mathlib.Core.Logic.{inl, inr}
 use Prim.Native.Nat.{ℕ, zero, suc, _+_, _-_, _*_, _≤_, _<_}
 use native.Mathlib.Omega.{arith}
 use lib.ListN.{getD}
-use Rattle.plan_form.specs.Entries.{Entries, closureAt, ClosureRule, closureOf, fibreNumber, Precedes, FibreRule, firstOf, secondOf, SpliceRule}
+use Rattle.plan_form.specs.Entries.{Entries, closureAt, ClosureRule, closureOf, fibreNumber, Precedes, FibreRule, firstOf, SpliceRule}
 use Rattle.plan_form.proofs.Halves.{half-lt}
 
 -- every byte is below 256

@@ -1,9 +1,7 @@
 -- Which parts of a plan are sound: section by section, each once those before it are.
-use mathlib.Core.Path.{_≡_, refl}
 use Prim.Native.Nat.{ℕ, _+_, _*_, _≤_, _<_}
 use native.Mathlib.Omega.{arith}
-use Rattle.plan_form.specs.Entries.{Entries, ClosureRule, FibreRule, SpliceRule}
-use Rattle.plan_form.specs.Form.{Plan, Part, closure-count, closure, fibre-count, fibre, splice-count, splice, start, size, planEnd, Has, Rule, Sound, SoundBefore, Broken, part-broken, left-over, IsPlan}
+use Rattle.plan_form.specs.Form.{Plan, Part, closure-count, closure, fibre-count, fibre, splice-count, splice, start, size, planEnd, Has, Rule, Sound, SoundBefore}
 
 module _ (P : Plan) (len : ℕ) where
   abbrev c : ℕ
@@ -11,12 +9,6 @@ module _ (P : Plan) (len : ℕ) where
 
   abbrev n : ℕ
   n = P .counts .fibres
-
-  abbrev s : ℕ
-  s = P .counts .splices
-
-  abbrev ClosuresSound : ℕ → Type 0
-  ClosuresSound k = (j : ℕ) → j < k → Sound P len (closure j)
 
   pub closures-sound : (k : ℕ) → 4 ≤ len → k ≤ c → ((j : ℕ) → j < k → Sound P len (closure j)) → SoundBefore P len (4 + 2 * k)
   unfolding start size Rule Has

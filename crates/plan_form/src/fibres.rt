@@ -1,7 +1,6 @@
 // The rules of fibres: numbers 1 to 288, strictly ascending pairs, listed closures.
 use crate::numbers::half;
 use crate::sections::Section;
-ghost use mathlib.Core.Path.{_≡_};
 ghost use Prim.Native.Nat.{ℕ, _+_, _≤_, _<_};
 ghost use Rattle.span.specs.Decision.{Decides};
 ghost use Rattle.plan_form.specs.Entries.{entries, closureAt, ClosureRule, Listed, FibreRule};

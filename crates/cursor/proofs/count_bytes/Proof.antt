@@ -1,5 +1,4 @@
 -- `cursor::count_bytes` meets its contract.
-use native.Mathlib.Omega.{arith}
 use mathlib.Core.Path.{refl}
 use Rattle.cursor.specs.Steps.{wordBytes}
 use borrow.Author.Needs.{needs}

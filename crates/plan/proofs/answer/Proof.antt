@@ -1,5 +1,4 @@
 -- `plan::answer` meets its contract.
-use native.Mathlib.Omega.{arith}
 use Rattle.receiver.specs.Gathering.{noCounts}
 use Rattle.plan.specs.Inner.Answers.{answerOf}
 use borrow.Author.Needs.{needs}

@@ -1,5 +1,4 @@
 -- `plan::receive_plan` meets its contract.
-use native.Mathlib.Omega.{arith}
 use mathlib.Core.Path.{ap}
 use Rattle.receiver.specs.Receive.{endingValue}
 use Rattle.plan.proofs.Passing.{file-inside, file-read, left-passed, refused-passed}

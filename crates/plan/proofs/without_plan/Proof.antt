@@ -1,9 +1,7 @@
 -- `plan::without_plan` meets its contract.
-use native.Mathlib.Omega.{arith}
 use mathlib.Core.Path.{refl}
 use Rattle.plan.specs.Receiving.{noEntries}
 use Rattle.plan.specs.Inner.Answers.{withoutPlan}
-use borrow.Author.Needs.{needs}
 use Rattle.plan.proofs.without_plan.Statement.{statement}
 use Rattle.plan.proofs.without_plan.Tie as tie
 

@@ -1,5 +1,4 @@
 -- `plan::write_plan` meets its contract.
-use native.Mathlib.Omega.{arith}
 use Rattle.span.proofs.Decision.{decides-refuted, decides-proved}
 use Rattle.plan.proofs.Answers.{write-unfit, write-refused, write-told}
 use borrow.Author.Needs.{needs}

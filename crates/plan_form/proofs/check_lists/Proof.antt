@@ -1,5 +1,4 @@
 -- `plan_form::check_lists` meets its contract.
-use native.Mathlib.Omega.{arith}
 use borrow.Author.Needs.{needs}
 use Rattle.plan_form.proofs.check_lists.Statement.{statement}
 use Rattle.plan_form.proofs.check_lists.Tie as tie

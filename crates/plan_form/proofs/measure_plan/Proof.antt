@@ -1,5 +1,4 @@
 -- `plan_form::measure_plan` meets its contract.
-use native.Mathlib.Omega.{arith}
 use borrow.Author.Needs.{needs}
 use Rattle.plan_form.proofs.measure_plan.Statement.{statement}
 use Rattle.plan_form.proofs.measure_plan.Tie as tie

@@ -5,7 +5,7 @@ use mathlib.Core.Logic.{_≢_}
 use Prim.Native.Nat.{ℕ, _+_, _-_, _*_, _≤_, _<_}
 use lib.ListN.{length, getD}
 use Rattle.plan_form.specs.declared.sections.Section.{Section}
-use Rattle.plan_form.specs.Entries.{Entries, closureAt, closureOf, fibreNumber, FibreRule, firstOf, secondOf}
+use Rattle.plan_form.specs.Entries.{Entries, closureAt, closureOf, fibreNumber, firstOf, secondOf}
 
 -- r is the first of n entries that breaks its rule, or n
 pub record First (Rule : ℕ → Type 0) (n r : ℕ) : Type 0 where

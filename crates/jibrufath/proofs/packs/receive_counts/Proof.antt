@@ -1,5 +1,4 @@
 -- `jibrufath::packs::receive_counts` meets its contract.
-use native.Mathlib.Omega.{arith}
 use Rattle.jibrufath.specs.Packs.{places}
 use borrow.Author.Needs.{needs}
 use Rattle.jibrufath.proofs.packs.receive_counts.Statement.{statement}

@@ -1,8 +1,6 @@
 -- `jibrufath::plans::entry_places` meets its contract.
-use native.Mathlib.Omega.{arith}
 use mathlib.Core.Path.{refl}
 use Rattle.jibrufath.specs.Plans.{entryPlaces}
-use borrow.Author.Needs.{needs}
 use Rattle.jibrufath.proofs.plans.entry_places.Statement.{statement}
 use Rattle.jibrufath.proofs.plans.entry_places.Tie as tie
 

@@ -1,5 +1,4 @@
 -- `jibrufath::plans::read_entries` meets its contract.
-use native.Mathlib.Omega.{arith}
 use Rattle.plan_form.specs.Form.{planValue}
 use Rattle.jibrufath.specs.Plans.{entriesIn}
 use Rattle.jibrufath.proofs.Endings.{refused-entries}

@@ -1,5 +1,4 @@
 -- `jibrufath::plans::read_word` meets its contract.
-use native.Mathlib.Omega.{arith}
 use mathlib.Core.Path.{ap}
 use Rattle.answer.specs.Values.{numberOf}
 use Rattle.plan_form.specs.Form.{planValue}

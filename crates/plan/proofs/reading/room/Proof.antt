@@ -3,7 +3,6 @@ use native.Mathlib.Omega.{arith}
 use Prim.Native.Nat.{_*_}
 use Rattle.span.proofs.Decision.{decides-no, decides-le}
 use Rattle.plan_form.specs.Form.{planEnd}
-use borrow.Author.Needs.{needs}
 use Rattle.plan.proofs.reading.room.Statement.{statement}
 use Rattle.plan.proofs.reading.room.Tie as tie
 

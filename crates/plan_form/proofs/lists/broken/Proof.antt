@@ -1,5 +1,4 @@
 -- `plan_form::lists::broken` meets its contract.
-use native.Mathlib.Omega.{arith}
 use borrow.Author.Needs.{needs}
 use Rattle.plan_form.proofs.lists.broken.Statement.{statement}
 use Rattle.plan_form.proofs.lists.broken.Tie as tie

@@ -1,5 +1,4 @@
 -- `plan_form::reading::broken` meets its contract.
-use native.Mathlib.Omega.{arith}
 use borrow.Author.Needs.{needs}
 use Rattle.plan_form.proofs.reading.broken.Statement.{statement}
 use Rattle.plan_form.proofs.reading.broken.Tie as tie

@@ -2,7 +2,6 @@
 use native.Mathlib.Omega.{arith}
 use mathlib.Core.Path.{refl}
 use mathlib.Core.Logic.{inl, inr}
-use borrow.Author.Needs.{needs}
 use Rattle.plan_form.proofs.reading.least.Statement.{statement}
 use Rattle.plan_form.proofs.reading.least.Tie as tie
 

@@ -1,5 +1,4 @@
 -- `plan_form::splices::either_marked` meets its contract.
-use native.Mathlib.Omega.{arith}
 use mathlib.Core.Logic.{inl, inr, ⊎-elim}
 use Rattle.span.proofs.Decision.{decides-map, decides-false}
 use borrow.Author.Needs.{needs}
