@@ -11,7 +11,8 @@ use Rattle.receiver.specs.Gathering.{Reception}
 use Rattle.receiver.specs.Receive.{Memory}
 use Rattle.receiver.specs.Theorems.{NothingLeftOpen}
 use Rattle.plan_form.specs.declared.PlanCounts.{PlanCounts}
-use Rattle.plan_form.specs.Form.{Lists, lists, countsOf}
+use Rattle.plan_form.specs.Form.{Lists, lists, countsOf, planBytes}
+use Rattle.plan_form.specs.Theorems.{onePlan}
 use Rattle.plan.specs.Calls.{WritePlanOutcome, Room, listsBegun, ReadPlanOutcome}
 use Rattle.plan.specs.Receiving.{noEntries, ReceivePlanOutcome}
 
@@ -23,6 +24,10 @@ pub record ListBytes (l : Lists) : Type 0 where
   pub closures : Bytes (l .closures)
   pub fibres : Bytes (l .fibres)
   pub splices : Bytes (l .splices)
+
+-- there are plans to be written, so that what follows says something: one of a splice, over any 30 bytes
+unfoldable pub OneWritten : Type 0
+OneWritten = ListBytes onePlan × ((before : List ℕ) → length before ≡ 30 → WritePlanOutcome onePlan before (planBytes onePlan) (gives tt))
 
 -- "The plan's writer and reader undo each other": what was written is shown, the entries as they were ...
 unfoldable pub UndoWrite : Type 0

@@ -6,7 +6,7 @@ ghost use Rattle.span.specs.Decision.{Decides};
 ghost use Rattle.plan_form.specs.Entries.{entries, closureAt, ClosureRule, Listed, FibreRule};
 ghost use Rattle.plan_form.specs.Inner.Checks.{First, Inside, Walked};
 
-// The first fibre of the section that breaks its rule, or the section's count. The closures are walked through once: those behind `q` are
+// The first fibre of the section that breaks its rule, or the section's count. The closures are walked through once: those before `q` are
 // below every fibre's that is still to come.
 pub(crate) fn first_broken(closures: &[u8], fibres: &[u8], c: Section, s: Section) -> usize
     requires { ⌜ Inside 2 (now closures) c × Inside 4 (now fibres) s × ((k : ℕ) → k < c .count → ClosureRule (entries (now closures) (c .at)) k) ⌝ }
@@ -33,7 +33,7 @@ pub(crate) fn first_broken(closures: &[u8], fibres: &[u8], c: Section, s: Sectio
     count
 }
 
-// Whether a fibre has a number of its closure's cable, and its pair follows the one before.
+// Whether a fibre's number is 1 to 288, and its pair not below the least that may follow.
 fn in_order(number: usize, pair: usize, least: usize) -> bool
     ensures { λ r. ⌜ Decides ((1 ≤ number) × (number ≤ 288) × (least ≤ pair)) r ⌝ }
 {

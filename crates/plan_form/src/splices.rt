@@ -54,7 +54,7 @@ fn in_rank(fibres: &[u8], f: Section, above: usize, a: usize, b: usize) -> bool
     half(fibres, f.at + 4 * a) == half(fibres, f.at + 4 * b)
 }
 
-// Whether a fibre bears the mark of its closure.
+// Whether one of two fibres bears the mark of its closure.
 fn either_marked(fibres: &[u8], marks: &[usize; 289], f: Section, a: usize, b: usize) -> bool
     requires { ⌜ Inside 4 (now fibres) f × FibresKept (entries (now fibres) (f .at)) (f .count) × (a < f .count) × (b < f .count) × (length (now marks) ≡ 289) ⌝ }
     ensures { λ r. ⌜ Decides (Marked (entries (now (fibres .entry)) (f .at)) (now (marks .entry)) a ⊎ Marked (entries (now (fibres .entry)) (f .at)) (now (marks .entry)) b) r ⌝ }
@@ -62,6 +62,7 @@ fn either_marked(fibres: &[u8], marks: &[usize; 289], f: Section, a: usize, b: u
     marked(fibres, marks, f, a) || marked(fibres, marks, f, b)
 }
 
+// Whether a fibre bears the mark of its closure.
 fn marked(fibres: &[u8], marks: &[usize; 289], f: Section, x: usize) -> bool
     requires { ⌜ Inside 4 (now fibres) f × FibresKept (entries (now fibres) (f .at)) (f .count) × (x < f .count) × (length (now marks) ≡ 289) ⌝ }
     ensures { λ r. ⌜ Decides (Marked (entries (now (fibres .entry)) (f .at)) (now (marks .entry)) x) r ⌝ }
