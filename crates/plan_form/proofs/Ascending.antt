@@ -6,21 +6,23 @@ use native.Mathlib.Omega.{arith}
 use Rattle.plan_form.specs.Entries.{Entries, closureAt, ClosureRule, closureOf, fibreNumber, Precedes, FibreRule}
 use Rattle.plan_form.specs.Inner.Checks.{FibresKept}
 
+-- what holds of neighbours, and passes from one to the next, holds at any distance
+module _ (R : ℕ → ℕ → Type 0) (passes : (x y z : ℕ) → R x y → R y z → R x z) (n : ℕ) (next : (k : ℕ) → 0 < k → k < n → R (k - 1) k) where
+  apart : (a d : ℕ) → a + suc d < n → R a (a + suc d)
+  apart a zero l = let e : a + 1 - 1 ≡ a = omega arith in rw e at (next (a + 1) (omega arith) (omega arith))
+  apart a (suc d) l =
+      let e : a + suc (suc d) - 1 ≡ a + suc d = omega arith in
+      passes a (a + suc d) (a + suc (suc d)) (apart a d (omega arith)) (rw e at (next (a + suc (suc d)) (omega arith) (omega arith)))
+
+  at-any-distance : (a b : ℕ) → a < b → b < n → R a b
+  at-any-distance a b l m = let e : a + suc (b - a - 1) ≡ b = omega arith in rw e at (apart a (b - a - 1) (omega arith))
+
 -- ---- closures
 
 module _ (C : Entries) (n : ℕ) (kept : (k : ℕ) → k < n → ClosureRule C k) where
-  -- d behind a
-  closures-apart : (a d : ℕ) → a + suc d < n → closureAt C a < closureAt C (a + suc d)
-  closures-apart a zero l = let step : closureAt C (a + 1 - 1) < closureAt C (a + 1) = kept (a + 1) (omega arith) .ascending (omega arith) in
-      let e : a + 1 - 1 ≡ a = omega arith in rw e at step
-  closures-apart a (suc d) l =
-      let step : closureAt C (a + suc (suc d) - 1) < closureAt C (a + suc (suc d)) = kept (a + suc (suc d)) (omega arith) .ascending (omega arith) in
-      let e : a + suc (suc d) - 1 ≡ a + suc d = omega arith in
-      let near : closureAt C (a + suc d) < closureAt C (a + suc (suc d)) = rw e at step in
-      omega (arith, closures-apart a d (omega arith))
-
   pub closures-ascend : (a b : ℕ) → a < b → b < n → closureAt C a < closureAt C b
-  closures-ascend a b l m = let e : a + suc (b - a - 1) ≡ b = omega arith in rw e at (closures-apart a (b - a - 1) (omega arith))
+  closures-ascend =
+      at-any-distance (λ a b. closureAt C a < closureAt C b) (λ x y z l m. omega arith) n (λ k some l. kept k l .ascending some)
 
 -- ---- fibres
 
@@ -43,18 +45,8 @@ module _ (F : Entries) where
   precedes-different x y (inr (_, a)) same e = omega arith
 
 module _ (C : Entries) (m : ℕ) (F : Entries) (n : ℕ) (kept : (k : ℕ) → k < n → FibreRule C m F k) where
-  fibres-apart : (a d : ℕ) → a + suc d < n → Precedes F a (a + suc d)
-  fibres-apart a zero l =
-      let step : Precedes F (a + 1 - 1) (a + 1) = kept (a + 1) (omega arith) .ascending (omega arith) in
-      let e : a + 1 - 1 ≡ a = omega arith in
-      rw e at step
-  fibres-apart a (suc d) l =
-      let step : Precedes F (a + suc (suc d) - 1) (a + suc (suc d)) = kept (a + suc (suc d)) (omega arith) .ascending (omega arith) in
-      let e : a + suc (suc d) - 1 ≡ a + suc d = omega arith in
-      precedes-trans F a (a + suc d) (a + suc (suc d)) (fibres-apart a d (omega arith)) (rw e at step)
-
   pub fibres-ascend : (a b : ℕ) → a < b → b < n → Precedes F a b
-  fibres-ascend a b l m = let e : a + suc (b - a - 1) ≡ b = omega arith in rw e at (fibres-apart a (b - a - 1) (omega arith))
+  fibres-ascend = at-any-distance (Precedes F) (precedes-trans F) n (λ k some l. kept k l .ascending some)
 
   pub fibres-kept : FibresKept F n
   fibres-kept =

@@ -12,15 +12,19 @@ use Rattle.plan_form.proofs.Halves.{half-lt}
 abbrev pub Bytes : List ℕ → Type 0
 Bytes xs = (i : ℕ) → getD xs i 0 < 256
 
+-- what ascends from one to the next has risen to k at k
+ascending-high : (f : ℕ → ℕ) (k : ℕ) → ((j : ℕ) → 0 < j → j < suc k → f (j - 1) < f j) → k ≤ f k
+ascending-high f zero up = omega arith
+ascending-high f (suc k) up =
+    let e : suc k - 1 ≡ k = omega arith in
+    let step : f k < f (suc k) = rw e at (up (suc k) (omega arith) (omega arith)) in
+    omega (arith, ascending-high f k (λ j some l. up j some (omega arith)))
+
 -- ---- closures
 
 module _ (C : Entries) (small : Bytes (C .bytes)) where
   closure-high : (k : ℕ) → ((j : ℕ) → j < suc k → ClosureRule C j) → k ≤ closureAt C k
-  closure-high zero kept = omega arith
-  closure-high (suc k) kept =
-      let e : suc k - 1 ≡ k = omega arith in
-      let step : closureAt C k < closureAt C (suc k) = rw e at (kept (suc k) (omega arith) .ascending (omega arith)) in
-      omega (arith, closure-high k (λ j l. kept j (omega arith)))
+  closure-high k kept = ascending-high (closureAt C) k (λ j some l. kept j l .ascending some)
 
   pub closures-few : (k : ℕ) → ((j : ℕ) → j < k → ClosureRule C j) → k ≤ 65536
   unfolding closureAt
@@ -40,11 +44,7 @@ module _ (C : Entries) (n : ℕ) (F : Entries) (small : Bytes (F .bytes)) where
   pair-lt x y (inr (e, l)) = omega arith
 
   pair-high : (k : ℕ) → ((j : ℕ) → j < suc k → FibreRule C n F j) → k ≤ closureOf F k * 65536 + fibreNumber F k
-  pair-high zero kept = omega arith
-  pair-high (suc k) kept =
-      let e : suc k - 1 ≡ k = omega arith in
-      let step : Precedes F k (suc k) = rw e at (kept (suc k) (omega arith) .ascending (omega arith)) in
-      omega (arith, pair-lt k (suc k) step, pair-high k (λ j l. kept j (omega arith)))
+  pair-high k kept = ascending-high (λ x. closureOf F x * 65536 + fibreNumber F x) k (λ j some l. pair-lt (j - 1) j (kept j l .ascending some))
 
   pub fibres-few : (k : ℕ) → ((j : ℕ) → j < k → FibreRule C n F j) → k < 4294967296
   unfolding closureOf
@@ -55,11 +55,7 @@ module _ (C : Entries) (n : ℕ) (F : Entries) (small : Bytes (F .bytes)) where
 
 module _ (F : Entries) (n : ℕ) (S : Entries) where
   first-high : (k : ℕ) → ((j : ℕ) → j < suc k → SpliceRule F n S j) → k ≤ firstOf S k
-  first-high zero kept = omega arith
-  first-high (suc k) kept =
-      let e : suc k - 1 ≡ k = omega arith in
-      let step : firstOf S k < firstOf S (suc k) = rw e at (kept (suc k) (omega arith) .ascending (omega arith)) in
-      omega (arith, first-high k (λ j l. kept j (omega arith)))
+  first-high k kept = ascending-high (firstOf S) k (λ j some l. kept j l .ascending some)
 
   pub splices-few : (k : ℕ) → ((j : ℕ) → j < k → SpliceRule F n S j) → k ≤ n
   splices-few zero kept = omega arith

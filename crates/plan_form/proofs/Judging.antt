@@ -50,18 +50,27 @@ module _ (P : Plan) (len : ℕ) where
   pub fibres-fit : SoundBefore P len (8 + 2 * c + 4 * n) → FibresKept (P .fibres) n
   fibres-fit before = fibres-kept (P .closures) c (P .fibres) n (fibres-keep before)
 
-  -- ---- a section of which the first `whole` entries are whole, `first` the first of them that breaks its rule
+  -- ---- entries of which the first `whole` are whole, and `first` is the first of those that breaks its rule, or is `whole`
+
+  module _ (entry : ℕ → Part) (whole first : ℕ) (found : First (λ k. Rule P (entry k)) whole first) where
+    each-sound : ((k : ℕ) → k < whole → start (P .counts) (entry k) + size (entry k) ≤ len) → (j : ℕ) → j < first → Sound P len (entry j)
+    each-sound fit j l = record { whole = fit j (omega (arith, found .bound)); kept = found .before j l }
+
+    first-unsound : (first ≡ whole → len < start (P .counts) (entry first) + size (entry first)) → Sound P len (entry first) → ⊥
+    first-unsound cut s =
+        elim (decLt first whole) [ yes here ↦ found .here here (s .kept) | no behind ↦ omega (arith, s .whole, cut (omega (arith, found .bound))) ]
+
+  -- ---- the three sections
 
   module _ (whole first : ℕ) (room : 4 ≤ len) (fit : 4 + 2 * whole ≤ len) (most : whole ≤ c) (cut : whole < c → len < 6 + 2 * whole)
       (found : First (ClosureRule (P .closures)) whole first) where
     closures-each : (j : ℕ) → j < first → Sound P len (closure j)
     unfolding start size Rule
-    closures-each j l = record { whole = omega (arith, found .bound); kept = found .before j l }
+    closures-each = each-sound closure whole first found (λ k l. omega arith)
 
     closure-bad : first < c → Sound P len (closure first) → ⊥
     unfolding start size Rule
-    closure-bad l s =
-        elim (decLt first whole) [ yes here ↦ found .here here (s .kept) | no behind ↦ omega (arith, s .whole, found .bound, cut (omega (arith, found .bound))) ]
+    closure-bad l = first-unsound closure whole first found (λ e. omega (arith, cut (omega arith)))
 
     pub closures-broken : first < c → Broken P len (4 + 2 * first)
     unfolding start Has
@@ -76,12 +85,11 @@ module _ (P : Plan) (len : ℕ) where
       (found : First (FibreRule (P .closures) c (P .fibres)) whole first) where
     fibres-each : (j : ℕ) → j < first → Sound P len (fibre j)
     unfolding start size Rule
-    fibres-each j l = record { whole = omega (arith, found .bound); kept = found .before j l }
+    fibres-each = each-sound fibre whole first found (λ k l. omega arith)
 
     fibre-bad : first < n → Sound P len (fibre first) → ⊥
     unfolding start size Rule
-    fibre-bad l s =
-        elim (decLt first whole) [ yes here ↦ found .here here (s .kept) | no behind ↦ omega (arith, s .whole, found .bound, cut (omega (arith, found .bound))) ]
+    fibre-bad l = first-unsound fibre whole first found (λ e. omega (arith, cut (omega arith)))
 
     pub fibres-broken : first < n → Broken P len (8 + 2 * c + 4 * first)
     unfolding start Has
@@ -98,12 +106,11 @@ module _ (P : Plan) (len : ℕ) where
       (cut : whole < P .counts .splices → len < 20 + 2 * c + 4 * n + 8 * whole) (found : First (SpliceRule (P .fibres) n (P .splices)) whole first) where
     splices-each : (j : ℕ) → j < first → Sound P len (splice j)
     unfolding start size Rule
-    splices-each j l = record { whole = omega (arith, found .bound); kept = found .before j l }
+    splices-each = each-sound splice whole first found (λ k l. omega arith)
 
     splice-bad : first < P .counts .splices → Sound P len (splice first) → ⊥
     unfolding start size Rule
-    splice-bad l s =
-        elim (decLt first whole) [ yes here ↦ found .here here (s .kept) | no behind ↦ omega (arith, s .whole, found .bound, cut (omega (arith, found .bound))) ]
+    splice-bad l = first-unsound splice whole first found (λ e. omega (arith, cut (omega arith)))
 
     pub splices-broken : first < P .counts .splices → Broken P len (12 + 2 * c + 4 * n + 8 * first)
     unfolding start Has
