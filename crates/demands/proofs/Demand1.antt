@@ -195,9 +195,9 @@ module _ (p : List ℕ) (m m′ : Memory) (l : Lists) where
       → Ends receiverNumbers (ReceiveLeaves p m m′ counts) value → Ends receivePlanNumbers (PlanLeaves p m m′ l l counts noEntries) value
   passed-ends _ counts o (in-result a) = in-result a
   passed-ends _ counts o (in-refusal n listed plain leaves) =
-      in-refusal n (more-numbers n listed) plain (record { memory = of-receiver leaves; lists = refl; no-counts = leaves .no-counts; no-entries = refl })
+      in-refusal n (more-numbers n listed) plain (record { memory = of-receiver listed leaves; lists = refl; no-counts = leaves .no-counts; no-entries = refl })
   passed-ends _ counts o (in-place n i listed place leaves) =
-      in-place n i (more-numbers n listed) place (record { memory = of-receiver leaves; lists = refl; no-counts = leaves .no-counts; no-entries = refl })
+      in-place n i (more-numbers n listed) place (record { memory = of-receiver listed leaves; lists = refl; no-counts = leaves .no-counts; no-entries = refl })
 
 receive-plan-ends : (p : List ℕ) (m m′ : Memory) (l l′ : Lists) (value : Value Reception) (counts : Counts) (entries : PlanCounts)
     → ReceivePlanOutcome reduction p m m′ l l′ value counts entries → Ends receivePlanNumbers (PlanLeaves p m m′ l l′ counts entries) value

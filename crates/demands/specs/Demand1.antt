@@ -63,22 +63,6 @@ pub record ReceiveLeaves (p : List ℕ) (m m′ : Memory) (counts : Counts) (n :
   -- "all counts with it are 0"
   pub no-counts : counts ≡ noCounts
 
--- Request P4: what a refusal leaves where a pack's plan is not shown. The receiver's own are as they were; with 18, and with the 4 of a list too
--- short, "the receiver's memory stands as File leaves it".
-pub data PlanMemory (p : List ℕ) (m m′ : Memory) (counts : Counts) (n : ℕ) : Type 0 where
-  of-receiver : ReceiveLeaves p m m′ counts n → PlanMemory p m m′ counts n
-  of-file :
-      OneOf (18 ∷ 4 ∷ []) n → (length : ℕ) (k : Counts) → ReceiveOutcome reduction p m m′ (gives (file length)) k →
-      PlanMemory p m m′ counts n
-
-pub record PlanLeaves (p : List ℕ) (m m′ : Memory) (l l′ : Lists) (counts : Counts) (entries : PlanCounts) (n : ℕ) : Type 0 where
-  pub memory : PlanMemory p m m′ counts n
-  -- "otherwise no list changes"
-  pub lists : l′ ≡ l
-  -- "all counts with it are 0"
-  pub no-counts : counts ≡ noCounts
-  pub no-entries : entries ≡ noEntries
-
 -- ---- the numbers that a call can give, in the table's order
 
 -- of a call that takes a shape
@@ -139,6 +123,22 @@ writePlanNumbers = 4 ∷ 18 ∷ []
 
 unfoldable pub formNumbers : List ℕ
 formNumbers = 18 ∷ []
+
+-- Request P4: what a refusal leaves where a pack's plan is not shown. The receiver's own are as they were; with 18, and with the 4 of a list too
+-- short, "the receiver's memory stands as File leaves it".
+pub data PlanMemory (p : List ℕ) (m m′ : Memory) (counts : Counts) (n : ℕ) : Type 0 where
+  of-receiver : OneOf receiverNumbers n → ReceiveLeaves p m m′ counts n → PlanMemory p m m′ counts n
+  of-file :
+      OneOf (18 ∷ 4 ∷ []) n → (length : ℕ) (k : Counts) → ReceiveOutcome reduction p m m′ (gives (file length)) k →
+      PlanMemory p m m′ counts n
+
+pub record PlanLeaves (p : List ℕ) (m m′ : Memory) (l l′ : Lists) (counts : Counts) (entries : PlanCounts) (n : ℕ) : Type 0 where
+  pub memory : PlanMemory p m m′ counts n
+  -- "otherwise no list changes"
+  pub lists : l′ ≡ l
+  -- "all counts with it are 0"
+  pub no-counts : counts ≡ noCounts
+  pub no-entries : entries ≡ noEntries
 
 -- ---- the demand, call by call
 

@@ -10,8 +10,8 @@ use Rattle.receiver.specs.declared.Counts.{Counts}
 use Rattle.receiver.specs.Gathering.{Reception}
 use Rattle.receiver.specs.Receive.{Memory}
 use Rattle.plan_form.specs.declared.PlanCounts.{PlanCounts}
+use Rattle.plan_form.specs.Entries.{Bytes}
 use Rattle.plan_form.specs.Form.{Broken, FormOutcome, formed, broken, planWith, planIn, Lists, planOf}
-use Rattle.plan_form.proofs.Few.{Bytes}
 use Rattle.plan_form.proofs.Offsets.{broken-lt}
 use Rattle.plan.specs.Calls.{WritePlanOutcome, write-inexact, write-broken, written, ReadPlanOutcome, read-broken, read-short, read-shown}
 use Rattle.plan.specs.Receiving.{ReceivePlanOutcome, no-file, no-plan, no-room, shown}

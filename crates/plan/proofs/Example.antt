@@ -1,41 +1,35 @@
 -- A plan of one splice is written: the theorems about plans that were written are not empty.
-use mathlib.Core.Path.{refl}
+use mathlib.Core.Path.{_≡_, refl}
+use mathlib.Core.Bool.{Bool, true, false, cond, false≢true}
 use mathlib.Core.List.{List, [], _∷_}
-use Prim.Native.Nat.{ℕ, zero, suc, _<_}
+use Prim.Native.Nat.{ℕ, zero, suc}
 use native.Mathlib.Omega.{arith}
-use lib.ListN.{getD}
+use borrow.Author.Tests.{ltb-true}
+use lib.Dec.{ltb}
+use Rattle.plan_form.specs.Entries.{Bytes}
 use Rattle.plan_form.specs.Theorems.{onePlan, PlanExists}
 use Rattle.plan_form.proofs.Example.{plan-exists}
 use Rattle.plan.specs.Calls.{Exact, written}
-use Rattle.plan.specs.Theorems.{Bytes, ListBytes, OneWritten}
+use Rattle.plan.specs.Theorems.{ListBytes, OneWritten}
 
-no-bytes : Bytes []
-unfolding Bytes
-no-bytes i = omega arith
+-- that a list is one of bytes, as a test
+unfoldable areBytes : List ℕ → Bool
+areBytes [] = true
+areBytes (x ∷ xs) = cond (ltb x 256) (areBytes xs) false
 
-more-bytes : (x : ℕ) (xs : List ℕ) → x < 256 → Bytes xs → Bytes (x ∷ xs)
-unfolding Bytes
-more-bytes x xs l all zero = l
-more-bytes x xs l all (suc i) = all i
+both-hold : (b c : Bool) → cond b c false ≡ true → (b ≡ true) × (c ≡ true)
+both-hold true c e = (refl, e)
+both-hold false c e = absurd (false≢true e)
+
+bytes : (xs : List ℕ) → areBytes xs ≡ true → Bytes xs
+unfolding areBytes
+bytes [] e i = omega arith
+bytes (x ∷ xs) e zero = ltb-true x 256 (both-hold (ltb x 256) (areBytes xs) e .0)
+bytes (x ∷ xs) e (suc i) = bytes xs (both-hold (ltb x 256) (areBytes xs) e .1) i
 
 one-bytes : ListBytes onePlan
-unfolding onePlan
-one-bytes =
-    record {
-      closures = more-bytes 7 _ (omega arith) (more-bytes 0 _ (omega arith) no-bytes);
-      fibres =
-          more-bytes 7 _ (omega arith)
-          (more-bytes 0 _ (omega arith)
-          (more-bytes 1 _ (omega arith)
-          (more-bytes 0 _ (omega arith)
-          (more-bytes 7 _ (omega arith) (more-bytes 0 _ (omega arith) (more-bytes 32 _ (omega arith) (more-bytes 1 _ (omega arith) no-bytes)))))));
-      splices =
-          more-bytes 0 _ (omega arith)
-          (more-bytes 0 _ (omega arith)
-          (more-bytes 0 _ (omega arith)
-          (more-bytes 0 _ (omega arith)
-          (more-bytes 1 _ (omega arith) (more-bytes 0 _ (omega arith) (more-bytes 0 _ (omega arith) (more-bytes 0 _ (omega arith) no-bytes)))))));
-    }
+unfolding onePlan areBytes
+one-bytes = record { closures = bytes (onePlan .closures) refl; fibres = bytes (onePlan .fibres) refl; splices = bytes (onePlan .splices) refl }
 
 pub one-written : OneWritten
 unfolding OneWritten onePlan PlanExists

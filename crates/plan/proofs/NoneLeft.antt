@@ -66,7 +66,9 @@ unchanged (read-shown _ _ _) none = absurd (none _ refl)
 
 pub none-left : NoneLeft
 unfolding NoneLeft
-none-left r p m m′ l l′ v k e (no-file _ _ _ _ same) i flag = (same, refl)
-none-left r p m m′ l l′ v k e (no-plan _ _ _ _ read) i flag = (unchanged read (λ n q. let z : _≡_ {A = ℕ} 0 1 = cc in omega arith), refl)
-none-left r p m m′ l l′ v k e (no-room _ _ _ read) i flag = (unchanged read (λ n q. let z : _≡_ {A = ℕ} 0 1 = cc in omega arith), refl)
+none-left r p m m′ l l′ v k e (no-file _ _ _ none same) i flag = (none, same, refl)
+none-left r p m m′ l l′ v k e (no-plan _ _ _ _ read) i flag =
+    (λ n q. let z : _≡_ {A = ℕ} 0 1 = cc in omega arith, unchanged read (λ n q. let z : _≡_ {A = ℕ} 0 1 = cc in omega arith), refl)
+none-left r p m m′ l l′ v k e (no-room _ _ _ read) i flag =
+    (λ n q. let z : _≡_ {A = ℕ} 0 1 = cc in omega arith, unchanged read (λ n q. let z : _≡_ {A = ℕ} 0 1 = cc in omega arith), refl)
 none-left r p m m′ l l′ v k e (shown n _ received _ _) i flag = absurd (none-received received n refl i flag)

@@ -10,14 +10,14 @@ use Rattle.answer.specs.Values.{Value, gives}
 use Rattle.cursor.specs.Steps.{word, wordBytes}
 use Rattle.pack.proofs.Written.{word-wordBytes}
 use Rattle.plan_form.specs.declared.PlanCounts.{PlanCounts}
-use Rattle.plan_form.specs.Entries.{entries}
+use Rattle.plan_form.specs.Entries.{Bytes, entries}
 use Rattle.plan_form.specs.Form.{closure, fibre, splice, planEnd, Has, Rule, IsPlan, planWith, closuresIn, fibresIn, splicesIn, planIn, Lists, lists, countsOf, planOf, planBytes, section, listsIn}
 use Rattle.plan_form.specs.Theorems.{BrokenOrPlan}
 use Rattle.plan_form.proofs.Few.{closures-few, fibres-few, splices-few}
 use Rattle.plan_form.proofs.OnePlace.{broken-or-plan}
 use Rattle.plan_form.proofs.Agreeing.{plan-agrees, agree-back}
 use Rattle.plan.specs.Calls.{Exact, WritePlanOutcome, write-inexact, write-broken, written, Room, begun, listsBegun, ReadPlanOutcome, read-broken, read-short, read-shown}
-use Rattle.plan.specs.Theorems.{Bytes, ListBytes, UndoWrite, firstEntries, UndoRead}
+use Rattle.plan.specs.Theorems.{ListBytes, UndoWrite, firstEntries, UndoRead}
 use Rattle.plan.proofs.Sections.{counts-same, closures-size, fibres-size, splices-size, sections-counted, sections-exact, sections-agree, file-back}
 use Rattle.plan.proofs.Beginning.{section-size, sections-size, sections-joined}
 
@@ -45,7 +45,7 @@ record Fits (n : PlanCounts) : Type 0 where
   splices : n .splices < 2 ^ 32
 
 plan-fits : (l : Lists) (len : ℕ) → ListBytes l → IsPlan (planOf l) len → Fits (countsOf l)
-unfolding planOf Has Rule Bytes
+unfolding planOf Has Rule
 plan-fits l len small plan =
     let C = entries (l .closures) 0 in
     let F = entries (l .fibres) 0 in

@@ -9,10 +9,10 @@ use Rattle.cursor.specs.Steps.{word, wordBytes}
 use Rattle.pack.proofs.AirPacks.{word-laid}
 use Rattle.pack.proofs.Laying.{part-length}
 use Rattle.plan_form.specs.declared.PlanCounts.{PlanCounts}
+use Rattle.plan_form.specs.Entries.{Bytes}
 use Rattle.plan_form.specs.Form.{planEnd, planCounts, planWith, closuresIn, fibresIn, splicesIn, planIn, countsOf, planOf, planBytes, section, listsIn}
 use Rattle.plan_form.proofs.Agreeing.{Agree}
 use Rattle.plan.specs.Calls.{Exact}
-use Rattle.plan.specs.Theorems.{Bytes}
 
 pub counts-same : {a a′ b b′ c c′ : ℕ} → a ≡ a′ → b ≡ b′ → c ≡ c′ → planCounts a b c ≡ planCounts a′ b′ c′
 counts-same p q r = rw (p, q, r)
@@ -27,7 +27,7 @@ module _ (f : List ℕ) where
   -- a count, its entries, and what stands behind them
   section-split : Bytes f → (at from n next : ℕ) → from ≡ at + 4 → next ≡ from + n → from ≤ length f
       → drop at f ≡ wordBytes (word f at) ++ (section f from n ++ drop next f)
-  unfolding Bytes section
+  unfolding section
   section-split small at from n next e e′ room =
       word-laid f small at (omega arith)
       ∙ rw (e′, ← drop-drop n from f, take-append-drop n (drop from f), e)

@@ -2,24 +2,23 @@
 -- proofs.
 use mathlib.Core.Path.{_≡_}
 use mathlib.Core.List.{List}
+use mathlib.Core.Logic.{_≢_}
 use Prim.Native.Nat.{ℕ, _*_, _<_}
 use lib.ListN.{length, getD, take}
 use Rattle.answer.specs.Values.{Value, gives}
 use Rattle.field.specs.Field.{Primitive}
 use Rattle.receiver.specs.declared.Counts.{Counts}
-use Rattle.receiver.specs.Gathering.{Reception}
+use Rattle.receiver.specs.Gathering.{Reception, file}
 use Rattle.receiver.specs.Receive.{Memory}
 use Rattle.receiver.specs.Theorems.{NothingLeftOpen}
 use Rattle.plan_form.specs.declared.PlanCounts.{PlanCounts}
+use Rattle.plan_form.specs.Entries.{Bytes}
 use Rattle.plan_form.specs.Form.{Lists, lists, countsOf, planBytes}
 use Rattle.plan_form.specs.Theorems.{onePlan}
 use Rattle.plan.specs.Calls.{WritePlanOutcome, Room, listsBegun, ReadPlanOutcome}
 use Rattle.plan.specs.Receiving.{noEntries, ReceivePlanOutcome}
 
--- every element is a byte
-unfoldable pub Bytes : List ℕ → Type 0
-Bytes xs = (i : ℕ) → getD xs i 0 < 256
-
+-- every element of the lists is a byte
 pub record ListBytes (l : Lists) : Type 0 where
   pub closures : Bytes (l .closures)
   pub fibres : Bytes (l .fibres)
@@ -44,11 +43,13 @@ UndoRead =
     (f : List ℕ) (lent lent′ : Lists) (n : PlanCounts) (before after : List ℕ) (v : Value Unit) → Bytes f → ReadPlanOutcome f lent lent′ (gives n) →
     WritePlanOutcome (firstEntries n lent′) before after v → length before ≡ length f → (v ≡ gives tt) × (after ≡ f)
 
--- "no pack with a place left shows a plan": where a flag says missing, no list has changed and no entries are counted
+-- "no pack with a place left shows a plan": where a flag says missing, the answer is no file, no list has changed and
+-- no entries are counted
 unfoldable pub NoneLeft : Type 0
 NoneLeft =
     (r : ℕ) (p : List ℕ) (m m′ : Memory) (l l′ : Lists) (v : Value Reception) (k : Counts) (e : PlanCounts) →
-    ReceivePlanOutcome r p m m′ l l′ v k e → (i : ℕ) → getD (m′ .flags) i 0 ≡ 1 → (l′ ≡ l) × (e ≡ noEntries)
+    ReceivePlanOutcome r p m m′ l l′ v k e → (i : ℕ) → getD (m′ .flags) i 0 ≡ 1 →
+    ((n : ℕ) → v ≢ gives (file n)) × (l′ ≡ l) × (e ≡ noEntries)
 
 -- "nothing is left open": the contracts determine answers and lists
 unfoldable pub WriteDetermined : Type 0

@@ -5,12 +5,8 @@ use mathlib.Core.Logic.{inl, inr}
 use Prim.Native.Nat.{ℕ, zero, suc, _+_, _-_, _*_, _≤_, _<_}
 use native.Mathlib.Omega.{arith}
 use lib.ListN.{getD}
-use Rattle.plan_form.specs.Entries.{Entries, closureAt, ClosureRule, closureOf, fibreNumber, Precedes, FibreRule, firstOf, SpliceRule}
+use Rattle.plan_form.specs.Entries.{Bytes, Entries, closureAt, ClosureRule, closureOf, fibreNumber, Precedes, FibreRule, firstOf, SpliceRule}
 use Rattle.plan_form.proofs.Halves.{half-lt}
-
--- every byte is below 256
-abbrev pub Bytes : List ℕ → Type 0
-Bytes xs = (i : ℕ) → getD xs i 0 < 256
 
 -- what ascends from one to the next has risen to k at k
 ascending-high : (f : ℕ → ℕ) (k : ℕ) → ((j : ℕ) → 0 < j → j < suc k → f (j - 1) < f j) → k ≤ f k

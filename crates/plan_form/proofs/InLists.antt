@@ -4,10 +4,10 @@ use mathlib.Core.List.{List}
 use Prim.Native.Nat.{ℕ, _+_, _*_, _/_, _≤_, _<_}
 use native.Mathlib.Omega.{arith}
 use lib.ListN.{length}
-use Rattle.plan_form.specs.Entries.{entries, ClosureRule, FibreRule, SpliceRule}
+use Rattle.plan_form.specs.Entries.{Bytes, entries, ClosureRule, FibreRule, SpliceRule}
 use Rattle.plan_form.specs.Form.{SoundBefore, Broken, IsPlan, planEnd, lists, countsOf, planOf}
 use Rattle.plan_form.specs.Inner.Checks.{First, FibresKept}
-use Rattle.plan_form.proofs.Few.{Bytes, closures-few, fibres-few}
+use Rattle.plan_form.proofs.Few.{closures-few, fibres-few}
 use Rattle.plan_form.proofs.Judging.{closures-keep, fibres-keep, fibres-fit, closures-broken, closures-passed, fibres-broken, fibres-passed, splices-broken, plan-formed}
 
 module _ (cs fs ss : List ℕ) where

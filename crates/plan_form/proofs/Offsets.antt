@@ -1,8 +1,9 @@
 -- A plan is broken within its first 2^45 bytes: up to there its entries ascend, and so are few.
 use Prim.Native.Nat.{ℕ, _+_, _*_, _^_, _≤_, _<_}
 use native.Mathlib.Omega.{arith}
+use Rattle.plan_form.specs.Entries.{Bytes}
 use Rattle.plan_form.specs.Form.{Plan, Part, closure-count, closure, fibre-count, fibre, splice-count, splice, start, planEnd, Has, Rule, SoundBefore, Broken, part-broken, left-over}
-use Rattle.plan_form.proofs.Few.{Bytes, closures-few, fibres-few, splices-few}
+use Rattle.plan_form.proofs.Few.{closures-few, fibres-few, splices-few}
 
 module _ (P : Plan) (len : ℕ) (small : Bytes (P .closures .bytes)) (small′ : Bytes (P .fibres .bytes)) where
   abbrev c : ℕ

@@ -6,6 +6,10 @@ use Prim.Native.Nat.{ℕ, _+_, _-_, _*_, _≤_, _<_}
 use lib.ListN.{getD}
 use Rattle.cursor.specs.Steps.{word}
 
+-- every element is a byte
+abbrev pub Bytes : List ℕ → Type 0
+Bytes xs = (i : ℕ) → getD xs i 0 < 256
+
 -- a number in two bytes; "All low byte first."
 unfoldable pub half : List ℕ → ℕ → ℕ
 half xs at = getD xs at 0 + 256 * getD xs (at + 1) 0

@@ -4,7 +4,9 @@
 use std::hint::black_box;
 use std::time::Duration;
 
-use jibrufath::plan::{Closure, Entries, Fibre, Plan, Splice, measure_plan, read_plan, write_plan};
+use jibrufath::plan::{
+    Closure, Fibre, Plan, PlanCounts, Splice, measure_plan, read_plan, write_plan,
+};
 use jibrufath::{Error, Refusal};
 
 use crate::bars::Bar;
@@ -89,7 +91,7 @@ fn plan(full: usize, fibres: usize, more: usize) -> Plan {
 /// Files that are refused: for their last entry, behind counts that promise more than there is, or where every fibre is in another
 /// closure than the one before it.
 fn hostile(largest: &[u8]) -> Result<Vec<(&'static str, Vec<u8>)>, Error> {
-    let splices = Entries {
+    let splices = PlanCounts {
         closures: CLOSURES,
         fibres: CLOSURES * FIBRES,
         splices: 0,
@@ -181,7 +183,7 @@ impl Lent {
         a_byte
     }
 
-    fn read(&mut self) -> Result<Entries, Refusal> {
+    fn read(&mut self) -> Result<PlanCounts, Refusal> {
         let [closures, fibres, splices] = &mut self.lists;
         read_plan(&self.file, closures, fibres, splices)
     }

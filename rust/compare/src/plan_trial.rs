@@ -1,7 +1,7 @@
 //! One file for the plan reader of both programs, lists for the plan writer of both, or a pack for the plan receiver of both; what
 //! is accepted goes both ways.
 
-use jibrufath::plan::{Entries, measure_plan, read_plan, receive_plan, write_plan};
+use jibrufath::plan::{PlanCounts, measure_plan, read_plan, receive_plan, write_plan};
 use reference::pack::COUNT;
 use reference::plan::{ENTRY, whole_entries};
 use reference::random::Random;
@@ -33,7 +33,7 @@ pub struct PlanPack {
 }
 
 /// The counts of the library in the order of their sections.
-fn counted(entries: Entries) -> [usize; 3] {
+fn counted(entries: PlanCounts) -> [usize; 3] {
     [entries.closures, entries.fibres, entries.splices]
 }
 

@@ -62,13 +62,13 @@ use crate::refusal::answer;
 /// How many entries a plan has in each of its sections.
 ///
 /// ```
-/// use jibrufath::plan::{Entries, measure_plan};
+/// use jibrufath::plan::{PlanCounts, measure_plan};
 ///
 /// // Three counts, and no entry.
-/// assert_eq!(measure_plan(&[0; 12]), Ok(Entries::default()));
+/// assert_eq!(measure_plan(&[0; 12]), Ok(PlanCounts::default()));
 /// ```
 #[derive(Clone, Copy, Debug, Default, PartialEq, Eq, Hash)]
-pub struct Entries {
+pub struct PlanCounts {
     /// The closures.
     pub closures: usize,
     /// The fibres.
@@ -77,10 +77,10 @@ pub struct Entries {
     pub splices: usize,
 }
 
-impl Entries {
-    fn new(counts: [u64; 3]) -> Entries {
+impl PlanCounts {
+    fn new(counts: [u64; 3]) -> PlanCounts {
         let [closures, fibres, splices] = counts.map(|count| count as usize);
-        Entries {
+        PlanCounts {
             closures,
             fibres,
             splices,
@@ -90,9 +90,9 @@ impl Entries {
     /// The length of a plan's file with so many entries: what [`write_plan`] is lent.
     ///
     /// ```
-    /// use jibrufath::plan::Entries;
+    /// use jibrufath::plan::PlanCounts;
     ///
-    /// let entries = Entries { closures: 1, fibres: 2, splices: 1 };
+    /// let entries = PlanCounts { closures: 1, fibres: 2, splices: 1 };
     /// assert_eq!(entries.file_bytes(), 12 + 2 + 2 * 4 + 8);
     /// ```
     pub fn file_bytes(self) -> usize {
@@ -159,20 +159,20 @@ pub fn write_plan(
 ///
 /// ```
 /// use jibrufath::Refusal;
-/// use jibrufath::plan::{Entries, measure_plan};
+/// use jibrufath::plan::{PlanCounts, measure_plan};
 ///
 /// let file = [1, 0, 0, 0, 0xBC, 0x02, 0, 0, 0, 0, 0, 0, 0, 0];
 /// let entries = measure_plan(&file)?;
-/// assert_eq!(entries, Entries { closures: 1, fibres: 0, splices: 0 });
+/// assert_eq!(entries, PlanCounts { closures: 1, fibres: 0, splices: 0 });
 ///
 /// // Without its last byte the count of splices, at offset 10, is cut.
 /// assert_eq!(measure_plan(&file[..13]), Err(Refusal::Entry { offset: 10 }));
 /// # Ok::<(), Refusal>(())
 /// ```
-pub fn measure_plan(file: &[u8]) -> Result<Entries, Refusal> {
+pub fn measure_plan(file: &[u8]) -> Result<PlanCounts, Refusal> {
     let mut counts = [0; 3];
     answer(call_measure(file, &mut counts))?;
-    Ok(Entries::new(counts))
+    Ok(PlanCounts::new(counts))
 }
 
 fn call_measure(file: &[u8], counts: &mut [u64; 3]) -> u64 {
@@ -190,12 +190,12 @@ fn call_measure(file: &[u8], counts: &mut [u64; 3]) -> u64 {
 ///
 /// ```
 /// use jibrufath::Refusal;
-/// use jibrufath::plan::{Entries, read_plan};
+/// use jibrufath::plan::{PlanCounts, read_plan};
 ///
 /// let file = [1, 0, 0, 0, 0xBC, 0x02, 0, 0, 0, 0, 0, 0, 0, 0];
 /// let mut closures = [0xAA; 4];
 /// let entries = read_plan(&file, &mut closures, &mut [], &mut [])?;
-/// assert_eq!(entries, Entries { closures: 1, fibres: 0, splices: 0 });
+/// assert_eq!(entries, PlanCounts { closures: 1, fibres: 0, splices: 0 });
 /// assert_eq!(closures, [0xBC, 0x02, 0xAA, 0xAA]);
 ///
 /// assert_eq!(read_plan(&file, &mut [0], &mut [], &mut []), Err(Refusal::SliceLength));
@@ -206,10 +206,10 @@ pub fn read_plan(
     closures: &mut [u8],
     fibres: &mut [u8],
     splices: &mut [u8],
-) -> Result<Entries, Refusal> {
+) -> Result<PlanCounts, Refusal> {
     let mut counts = [0; 3];
     answer(call_read(file, [closures, fibres, splices], &mut counts))?;
-    Ok(Entries::new(counts))
+    Ok(PlanCounts::new(counts))
 }
 
 fn call_read(file: &[u8], lists: [&mut [u8]; 3], counts: &mut [u64; 3]) -> u64 {

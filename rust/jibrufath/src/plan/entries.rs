@@ -1,6 +1,6 @@
 //! The entries of a plan by their names, and a plan with memory of its own.
 
-use super::{Entries, measure_plan, read_plan, write_plan};
+use super::{PlanCounts, measure_plan, read_plan, write_plan};
 use crate::Error;
 use crate::error::{reserve, zeros};
 
@@ -166,7 +166,7 @@ impl Plan {
         let closures = list(&self.closures, Closure::to_bytes)?;
         let fibres = list(&self.fibres, Fibre::to_bytes)?;
         let splices = list(&self.splices, Splice::to_bytes)?;
-        let entries = Entries {
+        let entries = PlanCounts {
             closures: self.closures.len(),
             fibres: self.fibres.len(),
             splices: self.splices.len(),

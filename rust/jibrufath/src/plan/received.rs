@@ -1,6 +1,6 @@
 //! A plan out of the packets that were heard.
 
-use super::{Entries, Plan};
+use super::{Plan, PlanCounts};
 use crate::ffi::jibrufath_receive_plan;
 use crate::receive::Counts;
 use crate::refusal::answer;
@@ -9,7 +9,7 @@ use crate::{Error, Received, Reception, Refusal, default_limit};
 /// What came of a pack that [`receive_plan`] did not refuse: a plan, or cells left.
 ///
 /// ```
-/// use jibrufath::plan::{Entries, receive_plan};
+/// use jibrufath::plan::{PlanCounts, receive_plan};
 /// use jibrufath::{AirPack, Received, Shape};
 ///
 /// // 27 cells of 5 bytes. Without a packet all are left, and no plan is shown.
@@ -17,7 +17,7 @@ use crate::{Error, Received, Reception, Refusal, default_limit};
 /// let (mut cube, mut flags, mut file) = ([0; 135], [0; 27], [0; 1]);
 /// let shown = receive_plan(air.as_bytes(), &mut cube, &mut flags, &mut file, &mut [], &mut [], &mut [])?;
 /// assert!(matches!(shown.received, Received::Left { cells: 27, .. }));
-/// assert_eq!(shown.entries, Entries::default());
+/// assert_eq!(shown.entries, PlanCounts::default());
 /// # Ok::<(), jibrufath::Error>(())
 /// ```
 #[derive(Clone, Copy, Debug, PartialEq, Eq, Hash)]
@@ -25,7 +25,7 @@ pub struct PlanReceived {
     /// What came of the pack: the file of the plan, or cells left.
     pub received: Received,
     /// The entries that begin the lists; all 0 where cells are left.
-    pub entries: Entries,
+    pub entries: PlanCounts,
 }
 
 /// Receives an air pack whose file is a plan, and shows the plan where nothing is left.
@@ -40,7 +40,7 @@ pub struct PlanReceived {
 /// [`Refusal::Entry`], and [`Refusal::SliceLength`] where a list is too short. No refusal changes a list.
 ///
 /// ```
-/// use jibrufath::plan::{Entries, receive_plan};
+/// use jibrufath::plan::{PlanCounts, receive_plan};
 /// use jibrufath::{Received, Refusal, Shape, needs, write};
 ///
 /// let plan = [1, 0, 0, 0, 0xBC, 0x02, 0, 0, 0, 0, 0, 0, 0, 0];
@@ -53,7 +53,7 @@ pub struct PlanReceived {
 /// let mut closures = [0xAA; 4];
 /// let shown = receive_plan(&pack, &mut cube, &mut flags, &mut file, &mut closures, &mut [], &mut [])?;
 /// assert!(matches!(shown.received, Received::File { len: 14, packets: 60, repeats: 0, .. }));
-/// assert_eq!(shown.entries, Entries { closures: 1, fibres: 0, splices: 0 });
+/// assert_eq!(shown.entries, PlanCounts { closures: 1, fibres: 0, splices: 0 });
 /// assert_eq!(closures, [0xBC, 0x02, 0xAA, 0xAA]);
 ///
 /// // A list that is too short, once the file is there.
@@ -78,7 +78,7 @@ pub fn receive_plan(
     let left = answer(call(air, lent, &mut counts, &mut entries))?;
     Ok(PlanReceived {
         received: Received::new(left, counts),
-        entries: Entries::new(entries),
+        entries: PlanCounts::new(entries),
     })
 }
 
