@@ -1,4 +1,4 @@
-/* Jibrufath: the proved packet cube, for C and C++. Link with target/staticlib/libjibrufath.a, which `rt staticlib jibrufath` writes.
+/* Jibrufath: the proved packet cube, for C and C++. Link with libjibrufath.a, of which there is one for each kind of processor.
  *
  * The cube
  *   A cube has l1 * l2 * l3 cells, each a packet of w bytes. Cell (a, b, c) has number a + l1 * (b + l2 * c), and its bytes begin at
@@ -31,8 +31,13 @@
  *   reserve; a test holds the calls to these.
  *
  * Numbers
- *   Lengths and all other numbers are uint64_t, which is what the machine code takes: the archive is for x86-64, and links with no
- *   other code.
+ *   Lengths and all other numbers are uint64_t on every processor, on those of 32 bits too: it is what the machine code takes.
+ *
+ * Linking
+ *   An archive calls memcpy and memset, the one for riscv64 memmove as well, and nothing else. The one for armv7 also needs the
+ *   compiler's division helpers __aeabi_uidiv and __aeabi_uldivmod, which are in libgcc and in compiler-rt; it is for NEON and the
+ *   calling convention with floating-point registers (gnueabihf). The WebAssembly module imports nothing, and exports its memory and,
+ *   as __heap_base, where the memory begins that a caller may lend.
  *
  * Answers
  *   Every call but those of the field answers with 64 bits. The low byte is a number of the table below, JIBRUFATH_OK or a refusal.

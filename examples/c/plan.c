@@ -1,6 +1,6 @@
 /* Writes a splice plan as packets, loses some of them, receives the rest and prints the plan: once with enough packets, once without.
  * Then two plans that are refused. All memory is static.
- * cc -std=c99 -Iinclude examples/c/plan.c target/staticlib/libjibrufath.a -o plan */
+ * cc -std=c99 -Iinclude examples/c/plan.c target/archives/x86-64/libjibrufath.a -o plan */
 #include "jibrufath.h"
 
 #include <stdio.h>

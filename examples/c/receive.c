@@ -1,6 +1,6 @@
 /* Writes a small file as packets, loses some of them and receives the rest: once with enough of them, once without. Then every packet
  * comes twice, as through two transponders, and some copies are damaged. Then two packs that a receiver must not trust.
- * cc -std=c99 -Iinclude examples/c/receive.c target/staticlib/libjibrufath.a -o receive */
+ * cc -std=c99 -Iinclude examples/c/receive.c target/archives/x86-64/libjibrufath.a -o receive */
 #include "jibrufath.h"
 
 #include <stdio.h>

@@ -1,5 +1,5 @@
 /* Measures the stack that each call takes: runs it on a painted stack and looks how deep the paint is gone, over shapes of every kind.
- * cc -std=c99 -Iinclude examples/c/stack.c target/staticlib/libjibrufath.a -o stack */
+ * cc -std=c99 -Iinclude examples/c/stack.c target/archives/x86-64/libjibrufath.a -o stack */
 #define _XOPEN_SOURCE 600
 #include "jibrufath.h"
 

@@ -8,7 +8,7 @@ use reference::random::Random;
 use crate::cube_encoder::{CubeEncoder, Order};
 use crate::gf_complete::{ALIGNMENT, GfLine};
 use crate::isal::IsalLine;
-use crate::measure::{ROUNDS, Row, Times, beside_memcpy, milliseconds, over};
+use crate::measure::{ROUNDS, Row, Times, beside_memcpy, entry, milliseconds};
 use crate::{REFERENCE_SET, clock};
 
 /// The reference set, large cubes of other widths, and a small cube of wide cells.
@@ -23,13 +23,13 @@ const SHAPES: [Shape; 6] = [
 
 /// What is said before the table.
 const HEADER: &str = "\
-Encode, from a data string to the whole cube. ISA-L: ec_encode_data in its own field, two parity packets a line.
+Encode, from a data string to the whole cube, in milliseconds and over memcpy of the cube. ISA-L: ec_encode_data in its own field, two parity packets a line.
 Plain: axis by axis. Best: plane by plane, as the last column says. In place: best, with the data already in the cube.
 GF-Complete: the same code and order, a product of a region for each packet; it takes W in multiples of 16 only.
 
-| shape | W | memcpy | ours | ours / memcpy | ISA-L best / memcpy | ISA-L plain / memcpy | ISA-L in place / memcpy \
-| GF-Complete / memcpy | ours / ISA-L best | ISA-L's best order |
-|---|---|---|---|---|---|---|---|---|---|---|";
+| shape | W | memcpy | ours | ours, AVX2 | ours / memcpy | ours, AVX2 / memcpy | ISA-L best / memcpy | ISA-L plain / memcpy | ISA-L in place / memcpy \
+| GF-Complete / memcpy | ours / ISA-L best | ours, AVX2 / ISA-L best | ISA-L's best order |
+|---|---|---|---|---|---|---|---|---|---|---|---|---|---|";
 
 /// One shape, with all memory that its encoders need.
 struct Encoding {
@@ -61,17 +61,26 @@ pub fn table() -> Vec<Row> {
         let times = state.times();
         state.check();
         let mut rows = times.rows(WORK);
-        let mut ratios: Vec<String> = rows.iter().map(|row| format!("{:.2}", row.ratio)).collect();
+        let mut peers: Vec<String> = rows[1..]
+            .iter()
+            .map(|row| format!("{:.2}", row.sse2.ratio))
+            .collect();
         if !state.aligned() {
-            ratios[4] = "-".into();
+            peers[3] = "-".into();
         }
         let Shape { l1, l2, l3, w } = shape;
+        let Row { sse2, avx2, .. } = &rows[0];
+        let best = rows[1].sse2.ratio;
         println!(
-            "| {l1} × {l2} × {l3} | {w} | {:.2} ms | {:.2} ms | {} | {:.2} | {} |",
+            "| {l1} × {l2} × {l3} | {w} | {:.2} | {:.2} | {} | {:.2} | {} | {} | {:.2} | {} | {} |",
             milliseconds(times.memcpy),
-            rows[0].milliseconds,
-            ratios.join(" | "),
-            over(times.work[0], times.work[1]),
+            sse2.milliseconds,
+            entry(avx2.as_ref().map(|avx2| avx2.milliseconds)),
+            sse2.ratio,
+            entry(avx2.as_ref().map(|avx2| avx2.ratio)),
+            peers.join(" | "),
+            sse2.ratio / best,
+            entry(avx2.as_ref().map(|avx2| avx2.ratio / best)),
             state.best,
         );
         if shape == REFERENCE_SET {

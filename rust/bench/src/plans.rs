@@ -10,7 +10,7 @@ use jibrufath::plan::{
 use jibrufath::{Error, Refusal};
 
 use crate::bars::Bar;
-use crate::measure::{least_times, milliseconds, over};
+use crate::measure::{Time, entry, least_times, milliseconds, over};
 
 /// The closures that there are, and the fibres of one.
 const CLOSURES: usize = 65_536;
@@ -39,8 +39,8 @@ pub fn table() -> Result<[Bar; 2], Error> {
         "\
 Plans: minimum of 8 or more rounds, a second or so. Ratios are to memcpy of the file in the same rounds.
 
-| file | megabytes | call | milliseconds | MB/s | over memcpy |
-|---|---|---|---|---|---|"
+| file | megabytes | call | milliseconds | MB/s | over memcpy | AVX2: milliseconds |
+|---|---|---|---|---|---|---|"
     );
     let hundred_thousand = plan(100_000 / FIBRES, FIBRES, 100_000 % FIBRES).to_bytes()?;
     Lent::new("100,000 fibres, all but a few spliced", hundred_thousand)?.measure_plan();
@@ -163,7 +163,7 @@ impl Lent {
             ],
         );
         assert!(self.back == self.file, "the plan is written back");
-        let a_byte = self.a_byte(times[1]);
+        let a_byte = self.a_byte(times[1].sse2);
         self.print(["measure_plan", "read_plan", "write_plan"], times);
         a_byte
     }
@@ -178,7 +178,7 @@ impl Lent {
                 &Lent::copy,
             ],
         );
-        let a_byte = self.a_byte(times[0]);
+        let a_byte = self.a_byte(times[0].sse2);
         self.print(["read_plan"], times);
         a_byte
     }
@@ -202,15 +202,16 @@ impl Lent {
     }
 
     /// A row for each call; the last of the times is that of memcpy.
-    fn print<const N: usize>(&self, calls: [&str; N], times: Vec<Duration>) {
+    fn print<const N: usize>(&self, calls: [&str; N], times: Vec<Time>) {
         let megabytes = self.file.len() as f64 / 1e6;
-        for (call, &time) in calls.iter().zip(&times) {
+        for (call, &Time { sse2, avx2 }) in calls.iter().zip(&times) {
             println!(
-                "| {} | {megabytes:.2} | {call} | {:.2} | {:.0} | {:.2} |",
+                "| {} | {megabytes:.2} | {call} | {:.2} | {:.0} | {:.2} | {} |",
                 self.what,
-                milliseconds(time),
-                megabytes / time.as_secs_f64(),
-                over(time, times[N])
+                milliseconds(sse2),
+                megabytes / sse2.as_secs_f64(),
+                over(sse2, times[N].sse2),
+                entry(avx2.map(milliseconds))
             );
         }
     }

@@ -35,28 +35,33 @@ pub fn draw(rows: &[Row], sizes: &[Size], shares: &[Share]) -> String {
 }
 
 fn bars(rows: &[Row]) -> String {
-    let most = rows.iter().map(|row| row.ratio).fold(1.0, f64::max);
-    let scale = (WIDTH - BARS_LEFT - MARGIN - 50.0) / most;
+    let most = rows.iter().map(|row| row.sse2.ratio).fold(1.0, f64::max);
+    let scale = (WIDTH - BARS_LEFT - MARGIN - 130.0) / most;
     let mut drawn = title(
         [MARGIN, MARGIN + 10.0],
         "Time over memcpy of the cube: 69 × 69 × 25, W 397",
     );
-    for (number, Row { what, ratio, .. }) in rows.iter().enumerate() {
+    for (number, Row { what, sse2, avx2 }) in rows.iter().enumerate() {
         let y = MARGIN + 30.0 + BAR * number as f64;
-        let colour = COLOURS[if what.contains("ISA-L") { 0 } else { 1 }];
+        let isal = what.contains("ISA-L");
         drawn += &text([BARS_LEFT - 10.0, y + 14.0], "end", what);
-        drawn += &format!(
-            "<rect x=\"{BARS_LEFT}\" y=\"{y:.1}\" width=\"{:.1}\" height=\"{:.1}\" rx=\"2\" fill=\"{colour}\"/>\n",
-            ratio * scale,
-            BAR - 6.0
-        );
-        drawn += &text(
-            [BARS_LEFT + ratio * scale + 8.0, y + 14.0],
-            "start",
-            &format!("{ratio:.1}"),
-        );
+        let ratio = sse2.ratio;
+        drawn += &bar(y, ratio * scale, BAR - 6.0, COLOURS[usize::from(!isal)]);
+        let mut figures = format!("{ratio:.1}");
+        if let Some(avx2) = avx2.as_ref().filter(|_| !isal) {
+            drawn += &bar(y + BAR - 12.0, avx2.ratio * scale, 6.0, COLOURS[2]);
+            figures += &format!(", {:.1} with AVX2", avx2.ratio);
+        }
+        let behind = [BARS_LEFT + ratio * scale + 8.0, y + 14.0];
+        drawn += &text(behind, "start", &figures);
     }
     drawn
+}
+
+fn bar(y: f64, width: f64, height: f64, colour: &str) -> String {
+    format!(
+        "<rect x=\"{BARS_LEFT}\" y=\"{y:.1}\" width=\"{width:.1}\" height=\"{height:.1}\" rx=\"2\" fill=\"{colour}\"/>\n"
+    )
 }
 
 /// Milliseconds against megabytes, both in powers of ten.

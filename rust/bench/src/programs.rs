@@ -13,7 +13,7 @@ use reference::random::Random;
 
 use crate::calls::{Calls, ENCODE};
 use crate::folder::Folder;
-use crate::measure::{self, milliseconds, over};
+use crate::measure::{self, Time, milliseconds, over};
 use crate::{REFERENCE_SET, clock};
 
 /// Each program is measured so often, and its least time taken.
@@ -50,7 +50,7 @@ print(min(times))
 /// The least times of memcpy and of our encode, which every row is compared with.
 struct Table {
     memcpy: Duration,
-    ours: Duration,
+    ours: Time,
 }
 
 /// Prints the table.
@@ -69,7 +69,10 @@ They restore the data from any blocks that are as many as the data's: more than 
     );
     let table = Table::new()?;
     table.print("memcpy", "copies the cube", table.memcpy);
-    table.print("ours", "encodes the cube from the data", table.ours);
+    table.print("ours", "encodes the cube from the data", table.ours.sse2);
+    if let Some(time) = table.ours.avx2 {
+        table.print("ours, AVX2", "the same", time);
+    }
     let blocks = |count: usize| -> Result<String, Refusal> {
         Ok(format!("{} parity blocks from {count}", parity(count)?))
     };
@@ -172,7 +175,7 @@ impl Table {
             "| {program} | {what} | {:.1} | {:.2} | {:.2} |",
             milliseconds(time),
             over(time, self.memcpy),
-            over(time, self.ours)
+            over(time, self.ours.sse2)
         );
     }
 }

@@ -43,7 +43,7 @@ Receiving of 69 × 69 × 25, W 397: placing the packets, filling, and reading th
     rows.iter().for_each(Row::print);
     let [once, twice] = [ONCE, TWICE].map(|what| {
         let row = rows.iter().find(|row| row.what == what);
-        row.expect("a row of the table").milliseconds
+        row.expect("a row of the table").sse2.milliseconds
     });
     let bar = Bar {
         what: "reference set: receive, every packet twice over once".into(),

@@ -30,8 +30,8 @@ pub fn table() -> Result<(), Refusal> {
 Filling with cells lost at random, minimum of {ROUNDS} rounds; and the flags that its sweeps read if each goes through all lines of its
 axis, until three in succession fill nothing: with every line counted to its end, and with the count that ends at the third missing cell.
 
-| cube | W | lost | milliseconds | over memcpy | cells left | flags read to the end | to the third | of them |
-|---|---|---|---|---|---|---|---|---|"
+| cube | W | lost | milliseconds | over memcpy | AVX2: milliseconds | over memcpy | cells left | flags read to the end | to the third | of them |
+|---|---|---|---|---|---|---|---|---|---|---|"
     );
     for shape in SHAPES {
         for percent in SHARES {
@@ -52,9 +52,8 @@ fn print_row(shape: Shape, percent: usize) -> Result<(), Refusal> {
     for row in repair.fill_times(ROUNDS).rows([what.as_str()]) {
         let Shape { l1, l2, l3, w } = shape;
         println!(
-            "| {l1} × {l2} × {l3} | {w} | {what} | {:.2} | {:.2} | {} | {to_the_end} | {to_the_third} | {:.1} % |",
-            row.milliseconds,
-            row.ratio,
+            "| {l1} × {l2} × {l3} | {w} | {what} | {} | {} | {to_the_end} | {to_the_third} | {:.1} % |",
+            row.columns(),
             repair.left(),
             100.0 * to_the_third as f64 / to_the_end as f64
         );

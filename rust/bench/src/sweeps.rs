@@ -20,8 +20,8 @@ pub fn table() -> Result<Vec<Bar>, Error> {
 Receiving of L × L × L, W 1, without the cells of a pattern, over memcpy of the cube and over a receive with nothing lost; minimum of
 {ROUNDS} rounds. Sweeps: those of a filling that goes through all lines each time.
 
-| L | lost | of the cells | sweeps | milliseconds | over memcpy | over nothing lost |
-|---|---|---|---|---|---|---|"
+| L | lost | of the cells | sweeps | milliseconds | over memcpy | AVX2: milliseconds | over memcpy | over nothing lost |
+|---|---|---|---|---|---|---|---|---|"
     );
     let mut worst = 0.0;
     for length in LENGTHS {
@@ -47,14 +47,13 @@ fn print_rows(length: usize) -> Result<f64, Error> {
         .iter()
         .map(|(name, _, flags)| Kind::without(name, flags));
     let rows = Receiving::new(shape, kinds.collect())?.rows(ROUNDS);
-    let over_nothing = |row: &Row| row.milliseconds / rows[0].milliseconds;
+    let over_nothing = |row: &Row| row.sse2.milliseconds / rows[0].sse2.milliseconds;
     for (row, (name, sweeps, flags)) in rows.iter().zip(&patterns) {
         let lost = flags.iter().filter(|&&flag| flag == 1).count();
         println!(
-            "| {length} | {name} | {:.2} % | {sweeps} | {:.2} | {:.2} | {:.2} |",
+            "| {length} | {name} | {:.2} % | {sweeps} | {} | {:.2} |",
             100.0 * lost as f64 / cells as f64,
-            row.milliseconds,
-            row.ratio,
+            row.columns(),
             over_nothing(row)
         );
     }

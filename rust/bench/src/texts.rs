@@ -10,7 +10,7 @@ use jibrufath::{Shape, write};
 use reference::random::Random;
 
 use crate::folder::Folder;
-use crate::measure::{self, least_times, milliseconds, over};
+use crate::measure::{self, Time, entry, least_times, milliseconds, over};
 use crate::{REFERENCE_SET, programs};
 
 /// xxd is measured so often each way, and its least time taken.
@@ -29,8 +29,8 @@ struct Twins {
 
 /// The least times of both ways.
 struct Times {
-    write: Duration,
-    read: Duration,
+    write: Time,
+    read: Time,
 }
 
 /// Prints how the time grows with the pack, and both ways beside xxd for the largest.
@@ -39,8 +39,8 @@ pub fn table() -> Result<(), Box<dyn Error>> {
         "\
 Text of packs with every packet, L × L × 25, W 397: milliseconds, and nanoseconds for each byte of the pack.
 
-| L | megabytes of the pack | write_text | read_text | write_text, ns a byte | read_text, ns a byte |
-|---|---|---|---|---|---|"
+| L | megabytes of the pack | write_text | read_text | write_text, ns a byte | read_text, ns a byte | write_text, AVX2 | read_text, AVX2 |
+|---|---|---|---|---|---|---|---|"
     );
     for length in LENGTHS {
         let Shape { l3, w, .. } = REFERENCE_SET;
@@ -49,12 +49,14 @@ Text of packs with every packet, L × L × 25, W 397: milliseconds, and nanoseco
         let bytes = twins.pack.len() as f64;
         let a_byte = |time: Duration| time.as_secs_f64() * 1e9 / bytes;
         println!(
-            "| {length} | {:.1} | {:.2} | {:.2} | {:.2} | {:.2} |",
+            "| {length} | {:.1} | {:.2} | {:.2} | {:.2} | {:.2} | {} | {} |",
             bytes / 1e6,
-            milliseconds(times.write),
-            milliseconds(times.read),
-            a_byte(times.write),
-            a_byte(times.read)
+            milliseconds(times.write.sse2),
+            milliseconds(times.read.sse2),
+            a_byte(times.write.sse2),
+            a_byte(times.read.sse2),
+            entry(times.write.avx2.map(milliseconds)),
+            entry(times.read.avx2.map(milliseconds))
         );
         if length == REFERENCE_SET.l1 {
             print_beside_xxd(&twins.pack, &times)?;
@@ -81,16 +83,17 @@ and writes to /dev/null; minimum of {ROUNDS}. Ours reads and writes memory.
     let mut to_bytes = Command::new("xxd");
     to_bytes.args(["-r", "-p"]).arg(&digits);
     to_bytes.stdout(Stdio::null());
-    print_row("write_text", "a pack to its text", times.write, times.write);
+    let [write, read] = [times.write.sse2, times.read.sse2];
+    print_row("write_text", "a pack to its text", write, write);
     if let Some(time) = least(&mut to_digits)? {
-        print_row("xxd -p", "bytes to digits", time, times.write);
+        print_row("xxd -p", "bytes to digits", time, write);
         to_digits.stdout(File::create(&digits)?).status()?;
     } else {
         println!("| xxd -p | not installed (Debian: xxd) | - | - |");
     }
-    print_row("read_text", "a text to its pack", times.read, times.read);
+    print_row("read_text", "a text to its pack", read, read);
     match least(&mut to_bytes)? {
-        Some(time) => print_row("xxd -r -p", "digits to bytes", time, times.read),
+        Some(time) => print_row("xxd -r -p", "digits to bytes", time, read),
         None => println!("| xxd -r -p | not installed (Debian: xxd) | - | - |"),
     }
     Ok(())

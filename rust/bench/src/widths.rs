@@ -40,11 +40,14 @@ const TURNS: usize = 5;
 /// The rounds of a turn. Fewer than for the reference set: one takes up to a second.
 const ROUNDS: usize = 4;
 
+/// What is said behind a call that is timed with AVX2.
+const WITH_AVX2: &str = ", AVX2";
+
 /// The least times of one shape in one turn.
 struct Column {
     shape: Shape,
     memcpy: Duration,
-    rows: Vec<(&'static str, Duration)>,
+    rows: Vec<(String, Duration)>,
 }
 
 /// The columns of one turn. Ratios are taken within a turn, and of all turns the one in the middle counts.
@@ -91,7 +94,7 @@ impl Column {
     fn measure(shape: Shape) -> Result<Column, Error> {
         let calls = Calls::new(shape)?.times(ROUNDS, &CALLS);
         let names = CALLS.iter().map(|call| call.name);
-        let mut rows: Vec<_> = names.zip(calls.work).collect();
+        let mut timed: Vec<_> = names.zip(calls.work).collect();
         let longest = shape.l1.max(shape.l2).max(shape.l3);
         for (what, flags) in [
             ("fill, 2 × L1 × L2 in succession lost", in_succession(shape)),
@@ -101,18 +104,24 @@ impl Column {
             ),
         ] {
             let mut repair = Repair::new(shape, flags)?;
-            rows.extend([what].into_iter().zip(repair.fill_times(ROUNDS).work));
+            timed.extend([what].into_iter().zip(repair.fill_times(ROUNDS).work));
             assert_eq!(repair.left(), 0, "{shape:?}, {what}");
         }
+        let sse2 = timed
+            .iter()
+            .map(|(what, time)| (what.to_string(), time.sse2));
+        let avx2 = timed
+            .iter()
+            .filter_map(|(what, time)| Some((format!("{what}{WITH_AVX2}"), time.avx2?)));
         Ok(Column {
             shape,
             memcpy: calls.memcpy,
-            rows,
+            rows: sse2.chain(avx2).collect(),
         })
     }
 
     fn time(&self, what: &str) -> Duration {
-        let row = self.rows.iter().find(|(name, _)| *name == what);
+        let row = self.rows.iter().find(|(name, _)| name == what);
         row.expect("a row of the table").1
     }
 
@@ -153,7 +162,8 @@ fn bars(turns: &[Turn]) -> Vec<Bar> {
         });
     }
     let bytes = W_64.w as f64 / W_63.w as f64;
-    for (what, _) in &turns[0][0].rows {
+    let sse2 = |what: &&String| !what.ends_with(WITH_AVX2);
+    for what in turns[0][0].rows.iter().map(|(what, _)| what).filter(sse2) {
         bars.push(Bar {
             what: format!("a byte of W 63 over one of W 64: {what}"),
             measured: median(turns, |turn| {

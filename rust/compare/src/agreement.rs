@@ -1,8 +1,11 @@
-//! Both programs on the same memory: their answers and every lent byte are compared.
+//! Both programs on the same memory: their answers and every lent byte are compared, for each of the library's archives that the processor
+//! can run.
 
+use std::array;
 use std::fmt::Debug;
 
 use jibrufath::Refusal;
+use jibrufath::processor::Instructions;
 use reference::random::Random;
 
 /// What both programs answer, and what both leave in the lent slices.
@@ -16,19 +19,26 @@ pub struct Agreed<A, const N: usize> {
 pub fn compare<A: PartialEq + Debug, const N: usize>(
     random: &mut Random,
     before: [&[u8]; N],
-    library: impl FnOnce([&mut [u8]; N]) -> A,
+    library: impl Fn([&mut [u8]; N]) -> A,
     independent: impl FnOnce([&mut [u8]; N]) -> A,
 ) -> Result<Agreed<A, N>, String> {
-    let mut lent = before.map(|bytes| Lent::new(random, bytes));
+    let starts = before.map(|_| random.among(64..=127));
     let mut expected = before.map(<[u8]>::to_vec);
-    let told = library(lent.each_mut().map(Lent::bytes_mut));
     let answer = independent(expected.each_mut().map(Vec::as_mut_slice));
-    if told != answer {
-        return Err(format!("the answer is {told:?}, and not {answer:?}"));
-    }
-    for (i, (lent, expected)) in lent.iter().zip(&expected).enumerate() {
-        if let Some(difference) = lent.difference(expected) {
-            return Err(format!("{answer:?}, slice {i}: {difference}"));
+    for &instructions in Instructions::available() {
+        let mut lent: [Lent; N] = array::from_fn(|i| Lent::new(starts[i], before[i]));
+        let told = instructions.with(|| library(lent.each_mut().map(Lent::bytes_mut)));
+        if told != answer {
+            return Err(format!(
+                "{instructions:?}: the answer is {told:?}, and not {answer:?}"
+            ));
+        }
+        for (i, (lent, expected)) in lent.iter().zip(&expected).enumerate() {
+            if let Some(difference) = lent.difference(expected) {
+                return Err(format!(
+                    "{instructions:?}: {answer:?}, slice {i}: {difference}"
+                ));
+            }
         }
     }
     Ok(Agreed {
@@ -42,7 +52,7 @@ pub fn agree<A: PartialEq + Debug, const N: usize>(
     what: &str,
     random: &mut Random,
     before: [&[u8]; N],
-    library: impl FnOnce([&mut [u8]; N]) -> A,
+    library: impl Fn([&mut [u8]; N]) -> A,
     independent: impl FnOnce([&mut [u8]; N]) -> A,
 ) -> Agreed<A, N> {
     compare(random, before, library, independent)
@@ -74,8 +84,7 @@ struct Lent {
 const BESIDE: u8 = 0xA5;
 
 impl Lent {
-    fn new(random: &mut Random, bytes: &[u8]) -> Lent {
-        let start = random.among(64..=127);
+    fn new(start: usize, bytes: &[u8]) -> Lent {
         let end = start + bytes.len();
         let mut buffer = vec![BESIDE; end + 64];
         buffer[start..end].copy_from_slice(bytes);
@@ -118,7 +127,7 @@ mod tests {
         assert_eq!(differ(|[_, b]| b[1]), None);
         assert_eq!(
             differ(|[a, _]| a[0]).as_deref(),
-            Some("the answer is 1, and not 3")
+            Some("Baseline: the answer is 1, and not 3")
         );
         let changed = differ(|[_, b]| {
             b[0] = 7;
@@ -126,13 +135,13 @@ mod tests {
         });
         assert_eq!(
             changed.as_deref(),
-            Some("3, slice 1: byte 0 is 07h, and not 02h")
+            Some("Baseline: 3, slice 1: byte 0 is 07h, and not 02h")
         );
     }
 
     #[test]
     fn bytes_beside_a_slice() {
-        let mut lent = Lent::new(&mut Random::new(2), &[1, 2]);
+        let mut lent = Lent::new(64, &[1, 2]);
         assert_eq!(lent.difference(&[1, 2]), None);
         for beside in [lent.start - 1, lent.end] {
             lent.buffer[beside] = 0;

@@ -42,6 +42,7 @@ mod mend;
 mod needs;
 mod pack;
 pub mod plan;
+pub mod processor;
 mod receive;
 mod refusal;
 mod scan;

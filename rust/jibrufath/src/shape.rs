@@ -155,7 +155,7 @@ impl Shape {
     }
 
     /// A size of this shape, as the library answers it.
-    fn ask(self, size: extern "C" fn(u64, u64, u64, u64) -> u64) -> Result<usize, Refusal> {
+    fn ask(self, size: fn(u64, u64, u64, u64) -> u64) -> Result<usize, Refusal> {
         let [l1, l2, l3, w] = self.numbers();
         answer(size(l1, l2, l3, w))
     }

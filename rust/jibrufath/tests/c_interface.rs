@@ -64,7 +64,7 @@ fn printed(name: &str) -> String {
         .args(["-std=c99", "-Wall", "-Wextra", "-Werror", "-pedantic", "-I"])
         .arg(repository.join("include"))
         .arg(repository.join("examples/c").join(name).with_extension("c"))
-        .arg(repository.join("target/staticlib/libjibrufath.a"))
+        .arg(repository.join("target/archives/x86-64/libjibrufath.a"))
         .arg("-o")
         .arg(&program)
         .status()
@@ -129,7 +129,9 @@ fn the_header_declares_what_is_exported() {
 
 #[test]
 fn the_wrapper_declares_what_is_exported() {
-    let wrapper = include_str!("../src/ffi.rs");
+    let (_, wrapper) = include_str!("../src/ffi.rs")
+        .split_once("\ncalls! {\n")
+        .expect("the list of calls");
     let behind = wrapper.split(" fn ").skip(1);
     let mut declared: Vec<String> = behind
         .map(|text| text.split(";\n").next().unwrap_or(text))
