@@ -55,7 +55,8 @@
 
 /* The version of this interface. The major number grows where a program must be changed or compiled again. */
 #define JIBRUFATH_VERSION_MAJOR 3
-#define JIBRUFATH_VERSION_MINOR 1
+#define JIBRUFATH_VERSION_MINOR 2
+#define JIBRUFATH_VERSION_PATCH 0
 
 #ifdef __cplusplus
 extern "C" {

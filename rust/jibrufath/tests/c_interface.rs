@@ -167,6 +167,7 @@ fn the_header_has_the_version_of_the_wrapper() {
     for (name, number) in [
         ("MAJOR", env!("CARGO_PKG_VERSION_MAJOR")),
         ("MINOR", env!("CARGO_PKG_VERSION_MINOR")),
+        ("PATCH", env!("CARGO_PKG_VERSION_PATCH")),
     ] {
         let define = format!("#define JIBRUFATH_VERSION_{name} {number}");
         assert!(header().lines().any(|line| line == define), "{define}");
