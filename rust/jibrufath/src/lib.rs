@@ -30,6 +30,10 @@
 //! [`plan::receive`] allocate, and say by their [`Error`] where the system has no memory. All other calls allocate nothing: the
 //! caller lends all memory, with the lengths that [`Shape`], [`needs()`], [`text::text_bytes`], [`text::text_pack_bytes`] or
 //! [`plan::measure_plan`] gives.
+//!
+//! The build script proves and builds the library where the Rattle toolchain is installed. Where it is not, the variable
+//! `JIBRUFATH_ARCHIVES` names a folder of prebuilt archives. On x86-64 Linux two archives are linked, and the calls go to the one for AVX2
+//! where the processor has it ([`processor`]); the feature `baseline` leaves that one out.
 
 #![warn(missing_docs)]
 
