@@ -2,14 +2,19 @@
 //! what each pack needs, and are given it for the writer, the receiver, the text writer and the plan receiver; a text goes to the
 //! text reader of both; a plan goes to the plan reader, its entries to the plan writer, and a pack of it to the plan receiver.
 //! Prints how many there were of each kind, what the answers were, and where the programs differ.
+//!
+//! `compare --record FILE SEED COUNT`: writes to FILE the calls for COUNT random packs, texts and plans, for cubes, sizes and all of the
+//! field, with what the independent program answers and leaves. targets/test plays them on the library of every processor.
 
 use std::collections::BTreeMap;
 use std::env;
+use std::fs;
 use std::process::ExitCode;
 use std::time::Instant;
 
 use compare::{
-    Answers, FromText, KINDS, PLAN_KINDS, PlanFile, PlanLists, PlanPack, TEXT_KINDS, ToText, Trial,
+    Answers, FromText, Kind, PLAN_KINDS, PlanFile, PlanLists, PlanPack, TEXT_KINDS, ToText, Trial,
+    recorded,
 };
 use reference::random::Random;
 use reference::{Outcome, Received, Refusal};
@@ -29,11 +34,33 @@ const CALLS: [&str; 7] = [
 ];
 
 fn main() -> ExitCode {
-    let numbers: Result<Vec<u64>, _> = env::args().skip(1).map(|word| word.parse()).collect();
-    let Ok(&[seed, count]) = numbers.as_deref() else {
-        eprintln!("usage: compare SEED COUNT");
-        return ExitCode::from(2);
+    let words: Vec<String> = env::args().skip(1).collect();
+    let words: Vec<&str> = words.iter().map(String::as_str).collect();
+    let numbers = |seed: &str, count: &str| Some((seed.parse().ok()?, count.parse().ok()?));
+    let ran = match words[..] {
+        ["--record", file, seed, count] => {
+            numbers(seed, count).map(|(seed, count)| record(file, seed, count))
+        }
+        [seed, count] => numbers(seed, count).map(|(seed, count)| compare(seed, count)),
+        _ => None,
     };
+    ran.unwrap_or_else(|| {
+        eprintln!("usage: compare SEED COUNT\n       compare --record FILE SEED COUNT");
+        ExitCode::from(2)
+    })
+}
+
+fn record(file: &str, seed: u64, count: u64) -> ExitCode {
+    match fs::write(file, recorded(seed, count)) {
+        Ok(()) => ExitCode::SUCCESS,
+        Err(error) => {
+            eprintln!("{file}: {error}");
+            ExitCode::FAILURE
+        }
+    }
+}
+
+fn compare(seed: u64, count: u64) -> ExitCode {
     let start = Instant::now();
     let tally = Tally::of(seed, count);
     tally.print();
@@ -43,31 +70,6 @@ fn main() -> ExitCode {
     );
     println!("disagreements: {}", tally.disagreements);
     ExitCode::from(u8::from(tally.disagreements > 0))
-}
-
-/// A kind of packs, of texts or of plans, by its place among these.
-#[derive(Clone, Copy, PartialEq, Eq, PartialOrd, Ord)]
-enum Kind {
-    Pack(usize),
-    Text(usize),
-    Plan(usize),
-}
-
-impl Kind {
-    fn all() -> Vec<Kind> {
-        let packs = (0..KINDS.len()).map(Kind::Pack);
-        let texts = (0..TEXT_KINDS.len()).map(Kind::Text);
-        let plans = (0..PLAN_KINDS.len()).map(Kind::Plan);
-        packs.chain(texts).chain(plans).collect()
-    }
-
-    fn name(self) -> &'static str {
-        match self {
-            Kind::Pack(kind) => KINDS[kind].0,
-            Kind::Text(kind) => TEXT_KINDS[kind].0,
-            Kind::Plan(kind) => PLAN_KINDS[kind].0,
-        }
-    }
 }
 
 /// What was tried, and what came of it.

@@ -9,7 +9,7 @@ use reference::{Received, Refusal};
 
 use crate::plans::pack_of;
 use crate::trial::told;
-use crate::{Trial, compare, placed};
+use crate::{Calls, Trial, compare, placed};
 
 /// A file, and the lengths of the lists that are lent for its entries.
 #[derive(Debug)]
@@ -93,6 +93,19 @@ impl PlanFile {
         }
         Ok(agreed.answer)
     }
+
+    /// Records the calls that [`PlanFile::compare`] makes with the file.
+    pub fn record(&self, random: &mut Random, calls: &mut Calls) {
+        let file = &self.file;
+        let [closures, fibres, splices] = self.lens.map(|len| random.bytes(len));
+        calls.call("measure_plan", [file], &[], |[file]| {
+            reference::measure_plan(file)
+        });
+        let slices = [file, &closures, &fibres, &splices].map(Vec::as_slice);
+        calls.call("read_plan", slices, &[], |[file, c, f, s]| {
+            reference::read_plan(file, c, f, s)
+        });
+    }
 }
 
 impl PlanLists {
@@ -143,6 +156,16 @@ impl PlanLists {
         }
         Ok(agreed.answer)
     }
+
+    /// Records the call that [`PlanLists::compare`] makes with the lists.
+    pub fn record(&self, random: &mut Random, calls: &mut Calls) {
+        let [closures, fibres, splices] = &self.lists;
+        let output = random.bytes(self.output_len);
+        let slices = [closures, fibres, splices, &output].map(Vec::as_slice);
+        calls.call("write_plan", slices, &[], |[c, f, s, output]| {
+            reference::write_plan(c, f, s, output)
+        });
+    }
 }
 
 impl PlanPack {
@@ -164,20 +187,10 @@ impl PlanPack {
         &self,
         random: &mut Random,
     ) -> Result<Result<(Received, [usize; 3]), Refusal>, String> {
-        let lens = self.trial.lens;
-        let [cube, flags, file] = [lens.cube, lens.flags, lens.file].map(|len| random.bytes(len));
-        let [closures, fibres, splices] = self.lens.map(|len| random.bytes(len));
+        let slices = self.slices(random);
         let agreed = compare(
             random,
-            [
-                &self.trial.pack,
-                &cube,
-                &flags,
-                &file,
-                &closures,
-                &fibres,
-                &splices,
-            ],
+            slices.each_ref().map(Vec::as_slice),
             |[air, cube, flags, file, c, f, s]| {
                 let shown = receive_plan(air, cube, flags, file, c, f, s).map_err(placed)?;
                 Ok((told(shown.received), counted(shown.entries)))
@@ -188,5 +201,24 @@ impl PlanPack {
         );
         let agreed = agreed.map_err(|difference| format!("receive_plan: {difference}"))?;
         Ok(agreed.answer)
+    }
+
+    /// Records the call that [`PlanPack::compare`] makes.
+    pub fn record(&self, random: &mut Random, calls: &mut Calls) {
+        let slices = self.slices(random);
+        let slices = slices.each_ref().map(Vec::as_slice);
+        calls.call("receive_plan", slices, &[], |slices| {
+            let [air, cube, flags, file, c, f, s] = slices;
+            reference::receive_plan(air, cube, flags, file, c, f, s)
+        });
+    }
+
+    /// What the call is lent: the pack, then garbage.
+    fn slices(&self, random: &mut Random) -> [Vec<u8>; 7] {
+        let lens = self.trial.lens;
+        let [cube, flags, file] = [lens.cube, lens.flags, lens.file].map(|len| random.bytes(len));
+        let [closures, fibres, splices] = self.lens.map(|len| random.bytes(len));
+        let pack = self.trial.pack.clone();
+        [pack, cube, flags, file, closures, fibres, splices]
     }
 }

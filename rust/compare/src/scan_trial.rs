@@ -4,7 +4,8 @@ use jibrufath::{Shape, scan};
 use reference::Scan;
 use reference::random::Random;
 
-use crate::{agree, numbered, random_shape, twin};
+use crate::cube_trial::numbers;
+use crate::{Calls, agree, numbered, random_shape, twin};
 
 /// A line of a cube, and the flags before a call.
 #[derive(Clone, Debug)]
@@ -70,5 +71,16 @@ impl ScanTrial {
             |[flags]| reference::scan(twin(shape), axis, line, flags),
         )
         .answer
+    }
+
+    /// Records the call.
+    pub fn record(&self, calls: &mut Calls) {
+        let ScanTrial {
+            shape, axis, line, ..
+        } = *self;
+        let numbers = [&numbers(shape)[..], &[axis, line]].concat();
+        calls.call("scan", [&self.flags], &numbers, |[flags]| {
+            reference::scan(twin(shape), axis, line, flags)
+        });
     }
 }

@@ -4,7 +4,7 @@ use jibrufath::text::{read_text, text_bytes, text_pack_bytes, write_text};
 use reference::Refusal;
 use reference::random::Random;
 
-use crate::{compare, placed};
+use crate::{Calls, compare, placed};
 
 /// A pack, and the length of the slice that is lent for its text.
 #[derive(Debug)]
@@ -24,7 +24,7 @@ pub struct FromText {
 const ANY_LEN: usize = 25;
 
 /// Now and then a wrong length.
-fn nearly(random: &mut Random, exact: usize) -> usize {
+pub(crate) fn nearly(random: &mut Random, exact: usize) -> usize {
     if random.chance(5) {
         return random.pick(&[exact + 1, exact.saturating_sub(1), 0]);
     }
@@ -74,6 +74,17 @@ impl ToText {
         }
         Ok(agreed.answer)
     }
+
+    /// Records the calls that [`ToText::compare`] makes with the pack.
+    pub fn record(&self, random: &mut Random, calls: &mut Calls) {
+        let text = random.bytes(self.text_len);
+        calls.call("text_bytes", [&self.air], &[], |[air]| {
+            reference::text_bytes(air)
+        });
+        calls.call("write_text", [&self.air, &text], &[], |[air, text]| {
+            reference::write_text(air, text)
+        });
+    }
 }
 
 impl FromText {
@@ -119,5 +130,16 @@ impl FromText {
             }
         }
         Ok(agreed.answer)
+    }
+
+    /// Records the calls that [`FromText::compare`] makes with the text.
+    pub fn record(&self, random: &mut Random, calls: &mut Calls) {
+        let air = random.bytes(self.air_len);
+        calls.call("text_pack_bytes", [&self.text], &[], |[text]| {
+            reference::text_pack_bytes(text)
+        });
+        calls.call("read_text", [&self.text, &air], &[], |[text, air]| {
+            reference::read_text(text, air)
+        });
     }
 }

@@ -5,7 +5,7 @@ use reference::pack::read_shape;
 use reference::random::Random;
 use reference::{Outcome, Shape};
 
-use crate::{KINDS, compare, numbered, placed};
+use crate::{Calls, KINDS, compare, numbered, placed};
 
 /// A pack, and the lengths of the slices that are lent with it.
 #[derive(Debug)]
@@ -53,6 +53,11 @@ impl Lens {
             &mut self.output,
         ]
     }
+
+    /// Random bytes of these lengths.
+    fn garbage(self, random: &mut Random) -> [Vec<u8>; 4] {
+        [self.cube, self.flags, self.file, self.output].map(|len| random.bytes(len))
+    }
 }
 
 impl Trial {
@@ -87,8 +92,7 @@ impl Trial {
             |[pack]| reference::needs(pack),
         )
         .map_err(|difference| format!("needs: {difference}"))?;
-        let lens = self.lens;
-        let garbage = [lens.cube, lens.flags, lens.file, lens.output].map(|len| random.bytes(len));
+        let garbage = self.lens.garbage(random);
         let [cube, flags, file, output] = garbage.each_ref().map(Vec::as_slice);
         let write = compare(
             random,
@@ -112,6 +116,22 @@ impl Trial {
             write: write.answer,
             receive: receive.answer,
         })
+    }
+
+    /// Records the calls that [`Trial::compare`] makes.
+    pub fn record(&self, random: &mut Random, calls: &mut Calls) {
+        let pack = &self.pack;
+        let garbage = self.lens.garbage(random);
+        let [cube, flags, file, output] = garbage.each_ref().map(Vec::as_slice);
+        calls.call("needs", [pack], &[], |[pack]| reference::needs(pack));
+        calls.call("write_pack", [pack, cube, output], &[], |slices| {
+            let [job, cube, output] = slices;
+            reference::write_pack(job, cube, output)
+        });
+        calls.call("receive_pack", [pack, cube, flags, file], &[], |slices| {
+            let [air, cube, flags, file] = slices;
+            reference::receive_pack(air, cube, flags, file)
+        });
     }
 }
 

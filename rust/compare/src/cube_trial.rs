@@ -1,0 +1,79 @@
+//! One cube for the calls on cubes, to be recorded.
+
+use jibrufath::Shape;
+use reference::random::Random;
+
+use crate::record::Calls;
+use crate::text_trial::nearly;
+use crate::{FillTrial, SHAPES_AT_THE_LIMITS, random_shape, twin};
+
+/// A cube with its flags, and the shape that the calls are given.
+pub struct CubeTrial {
+    lent: FillTrial,
+    given: Shape,
+}
+
+impl CubeTrial {
+    /// A random code cube in which bytes may be wrong and cells missing. Now and then a flag is neither 0 nor 1, a slice has a wrong
+    /// length, or the calls are given another shape.
+    pub fn random(random: &mut Random) -> CubeTrial {
+        let shape = random_shape(random);
+        let mut lent = FillTrial::new(random, shape);
+        let last = lent.flags.len() - 1;
+        for _ in 0..random.pick(&[0, 0, 1, 2, 5]) {
+            let cell = random.among(0..=last);
+            lent.spoil(random, cell);
+        }
+        if random.chance(50) {
+            let percent = random.among(0..=60);
+            lent.lose_percent(random, percent);
+        }
+        if random.chance(5) {
+            lent.flags[random.among(0..=last)] = random.nonzero_byte();
+        }
+        for slice in [&mut lent.cube, &mut lent.flags] {
+            let len = nearly(random, slice.len());
+            slice.resize(len, 0);
+        }
+        let given = match random.chance(5) {
+            true => random.pick(&SHAPES_AT_THE_LIMITS).0,
+            false => shape,
+        };
+        CubeTrial { lent, given }
+    }
+
+    /// Records the calls on the cube, and encodes data over garbage of its length.
+    pub fn record(&self, random: &mut Random, calls: &mut Calls) {
+        let FillTrial { shape, cube, flags } = &self.lent;
+        let capacity = nearly(random, twin(*shape).capacity());
+        let [data, other, second] = [capacity, cube.len(), cube.len()].map(|len| random.bytes(len));
+        let numbers = numbers(self.given);
+        let shape = twin(self.given);
+        calls.call("encode", [&data, &other], &numbers, |[data, cube]| {
+            reference::encode(shape, data, cube)
+        });
+        calls.call("extract", [cube, &data], &numbers, |[cube, data]| {
+            reference::extract(shape, cube, data)
+        });
+        calls.call("is_code_cube", [cube], &numbers, |[cube]| {
+            reference::is_code_cube(shape, cube)
+        });
+        calls.call("fill", [cube, flags], &numbers, |[cube, flags]| {
+            reference::fill(shape, cube, flags)
+        });
+        let slices = [cube, flags, &second].map(Vec::as_slice);
+        calls.call("mend", slices, &numbers, |[cube, flags, second]| {
+            reference::mend(shape, cube, flags, second)
+        });
+        let axis = random.pick(&[1, 1, 1, 2, 2, 2, 3, 3, 3, 0, 4, usize::MAX]);
+        let numbers = [&numbers[..], &[axis]].concat();
+        calls.call("mend_axis", [cube], &numbers, |[cube]| {
+            reference::mend_axis(shape, axis, cube)
+        });
+    }
+}
+
+/// A shape as the calls take it.
+pub(crate) fn numbers(shape: Shape) -> [usize; 4] {
+    [shape.l1, shape.l2, shape.l3, shape.w]
+}

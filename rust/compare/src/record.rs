@@ -1,0 +1,202 @@
+//! Calls recorded for other processors: what is lent, and what the independent program answers and leaves. targets/play.c and
+//! targets/play.mjs play them on the library.
+//!
+//! A file begins with how many calls it has, in 8 bytes. Each call is:
+//!
+//! - name: a byte for its length, then its characters, without `jibrufath_`
+//! - slices: a byte for how many; for each its length in 4 bytes, what it holds before, and a byte that is 0 where it is kept, or
+//!   else 1 and what it holds afterwards
+//! - numbers: a byte for how many, then 8 bytes each
+//! - arrays: a byte for how many; for each a byte for its places, then what these hold afterwards, 8 bytes each
+//! - answer: 8 bytes
+//!
+//! Numbers are low byte first. Slices, numbers and arrays are those of the call, which takes them in this order.
+
+use reference::{Outcome, Received, Refusal, Scan};
+
+/// A call whose slices have more bytes than this is left out, so that a file stays short.
+const MOST_BYTES: usize = 131_072;
+
+/// A call is long where its slices have more bytes than this.
+const LONG: usize = 4_096;
+
+/// One in so many long calls is recorded.
+const ONE_IN: u64 = 7;
+
+/// Calls that are recorded, one behind the other.
+#[derive(Default)]
+pub struct Calls {
+    count: u64,
+    bytes: Vec<u8>,
+    /// The long calls, recorded and not.
+    long: u64,
+}
+
+impl Calls {
+    /// Gives the independent program slices that hold these bytes, and records the call with what comes of it.
+    pub fn call<T: Told, E: Into<Refusal>, const N: usize>(
+        &mut self,
+        name: &str,
+        before: [&[u8]; N],
+        numbers: &[usize],
+        independent: impl FnOnce([&mut [u8]; N]) -> Result<T, E>,
+    ) {
+        if self.leaves_out(before.iter().map(|slice| slice.len()).sum()) {
+            return;
+        }
+        let mut after = before.map(<[u8]>::to_vec);
+        let told = independent(after.each_mut().map(Vec::as_mut_slice)).map_err(Into::into);
+        self.write_name(name);
+        self.bytes.push(N as u8);
+        for (before, after) in before.iter().zip(&after) {
+            self.write_slice(before, after);
+        }
+        self.write_numbers(numbers);
+        let refused = || T::PLACES.iter().map(|&places| vec![0; places]).collect();
+        self.write_arrays(&told.as_ref().map_or_else(|_| refused(), Told::arrays));
+        self.write_u64(match told {
+            Ok(told) => told.count() << 8,
+            Err(Refusal { number, place }) => place.unwrap_or(0) << 8 | u64::from(number),
+        });
+    }
+
+    /// Records a call of the field, which takes bytes and answers with one.
+    pub(crate) fn call_of_the_field(&mut self, name: &str, bytes: &[u8], answer: u8) {
+        self.write_name(name);
+        self.bytes.push(0);
+        self.write_numbers(&bytes.iter().map(|&b| b.into()).collect::<Vec<_>>());
+        self.write_arrays(&[]);
+        self.write_u64(answer.into());
+    }
+
+    /// The file of these calls.
+    pub fn into_file(self) -> Vec<u8> {
+        [&self.count.to_le_bytes()[..], &self.bytes].concat()
+    }
+
+    /// Whether a call whose slices have so many bytes is left out.
+    fn leaves_out(&mut self, bytes: usize) -> bool {
+        let long = bytes > LONG;
+        self.long += u64::from(long);
+        bytes > MOST_BYTES || long && self.long % ONE_IN > 0
+    }
+
+    fn write_name(&mut self, name: &str) {
+        self.count += 1;
+        self.bytes.push(name.len() as u8);
+        self.bytes.extend(name.as_bytes());
+    }
+
+    fn write_slice(&mut self, before: &[u8], after: &[u8]) {
+        self.bytes.extend((before.len() as u32).to_le_bytes());
+        self.bytes.extend(before);
+        self.bytes.push(u8::from(before != after));
+        if before != after {
+            self.bytes.extend(after);
+        }
+    }
+
+    fn write_numbers(&mut self, numbers: &[usize]) {
+        self.bytes.push(numbers.len() as u8);
+        numbers.iter().for_each(|&n| self.write_u64(n as u64));
+    }
+
+    fn write_arrays(&mut self, arrays: &[Vec<u64>]) {
+        self.bytes.push(arrays.len() as u8);
+        for array in arrays {
+            self.bytes.push(array.len() as u8);
+            array.iter().for_each(|&word| self.write_u64(word));
+        }
+    }
+
+    fn write_u64(&mut self, number: u64) {
+        self.bytes.extend(number.to_le_bytes());
+    }
+}
+
+/// What a call hands back where it refuses nothing: the count in its answer, and its arrays.
+pub trait Told {
+    /// How many places each array has. All of them are 0 with a refusal.
+    const PLACES: &'static [usize] = &[];
+
+    fn count(&self) -> u64 {
+        0
+    }
+
+    fn arrays(&self) -> Vec<Vec<u64>> {
+        vec![]
+    }
+}
+
+impl Told for () {}
+
+impl Told for usize {
+    fn count(&self) -> u64 {
+        *self as u64
+    }
+}
+
+impl Told for bool {
+    fn count(&self) -> u64 {
+        u64::from(*self)
+    }
+}
+
+/// What a pack needs.
+impl Told for [u64; 16] {
+    const PLACES: &'static [usize] = &[16];
+
+    fn arrays(&self) -> Vec<Vec<u64>> {
+        vec![self.to_vec()]
+    }
+}
+
+/// The entries of a plan.
+impl Told for [usize; 3] {
+    const PLACES: &'static [usize] = &[3];
+
+    fn arrays(&self) -> Vec<Vec<u64>> {
+        vec![self.map(|entries| entries as u64).to_vec()]
+    }
+}
+
+impl Told for Scan {
+    const PLACES: &'static [usize] = &[2];
+
+    fn arrays(&self) -> Vec<Vec<u64>> {
+        vec![vec![self.holes as u64, self.read as u64]]
+    }
+}
+
+impl Told for Received {
+    const PLACES: &'static [usize] = &[16];
+
+    fn count(&self) -> u64 {
+        match self.outcome {
+            Outcome::File { .. } => 0,
+            Outcome::Left { cells } => cells as u64,
+        }
+    }
+
+    fn arrays(&self) -> Vec<Vec<u64>> {
+        let mut counts = vec![0; 16];
+        if let Outcome::File { len } = self.outcome {
+            counts[0] = len as u64;
+        }
+        [counts[1], counts[2], counts[13]] = [self.packets, self.repeats, self.conflicts];
+        vec![counts]
+    }
+}
+
+/// What the plan receiver hands back.
+impl Told for (Received, [usize; 3]) {
+    const PLACES: &'static [usize] = &[16, 3];
+
+    fn count(&self) -> u64 {
+        self.0.count()
+    }
+
+    fn arrays(&self) -> Vec<Vec<u64>> {
+        [self.0.arrays(), self.1.arrays()].concat()
+    }
+}
