@@ -5,48 +5,13 @@ use std::path::{Path, PathBuf};
 use std::process::Command;
 
 /// What examples/c/receive.c prints.
-const RECEIVED: &str = "\
-125 packets of 16 bytes written
-50 packets lost: 0 conflicts, \"Splice plan 17: fibre 3 to fibre 12, tray B.\"
-75 packets lost: 0 conflicts, 75 cells left
-every packet twice, 25 damaged: 25 conflicts, \"Splice plan 17: fibre 3 to fibre 12, tray B.\"
-a packet for a cell outside the cube: refused 11, packet 0
-a pack of another shape: no room for a cube of 265302000 bytes
-";
+const RECEIVED: &str = include_str!("../../../examples/c/receive.out");
 
 /// What examples/c/plan.c prints.
-const PLANNED: &str = "\
-a plan of 84 bytes, in 125 packets of 16
-50 packets lost: 2 closures, 9 fibres, 4 splices
-  closure 17: 1-25 2-27 3-26
-  closure 210: 7-288
-75 packets lost: 75 cells left, and no plan
-a fibre in two splices: refused 18, offset 60
-a file that is cut: refused 18, offset 76
-";
+const PLANNED: &str = include_str!("../../../examples/c/plan.out");
 
-/// The stack that each call may take, in bytes, as the header says.
-const STACK: [(&str, usize); 19] = [
-    ("encode", 12_000),
-    ("extract", 1_000),
-    ("is_code_cube", 12_000),
-    ("fill", 40_000),
-    ("scan", 1_000),
-    ("mend", 20_000),
-    ("mend_axis", 20_000),
-    ("write_pack", 12_000),
-    ("receive_pack", 40_000),
-    ("needs", 1_000),
-    ("write_text", 5_000),
-    ("read_text", 1_000),
-    ("text sizes", 1_000),
-    ("write_plan", 3_000),
-    ("measure_plan", 3_000),
-    ("read_plan", 3_000),
-    ("receive_plan", 40_000),
-    ("sizes", 1_000),
-    ("field", 1_000),
-];
+/// The stack that each call may take, as the header says.
+const STACK: &str = include_str!("../../../examples/c/stack.most");
 
 fn repository() -> PathBuf {
     Path::new(env!("CARGO_MANIFEST_DIR"))
@@ -81,16 +46,21 @@ fn the_examples_run() {
     assert_eq!(printed("plan"), PLANNED);
 }
 
+/// Lines that have a call and its bytes.
+fn figures(text: &str) -> Vec<(&str, usize)> {
+    let lines = text.lines().filter(|line| !line.starts_with('#'));
+    lines
+        .filter_map(|line| line.rsplit_once(' '))
+        .map(|(call, bytes)| (call, bytes.parse().expect("a number")))
+        .collect()
+}
+
 #[test]
 fn the_stack_is_as_the_header_says() {
     let printed = printed("stack");
-    let taken: Vec<(&str, usize)> = printed
-        .lines()
-        .filter_map(|line| line.rsplit_once(' '))
-        .map(|(call, bytes)| (call, bytes.parse().expect("a number")))
-        .collect();
-    assert_eq!(taken.len(), STACK.len(), "{printed}");
-    for ((call, bytes), (name, most)) in taken.into_iter().zip(STACK) {
+    let [taken, most] = [&printed, STACK].map(figures);
+    assert_eq!(taken.len(), most.len(), "{printed}");
+    for ((call, bytes), (name, most)) in taken.into_iter().zip(most) {
         assert!(call == name && bytes <= most, "{call}: {bytes} bytes");
     }
 }
