@@ -3,9 +3,8 @@
 use jibrufath::Shape;
 use reference::random::Random;
 
-use crate::record::Calls;
 use crate::text_trial::nearly;
-use crate::{FillTrial, SHAPES_AT_THE_LIMITS, random_shape, twin};
+use crate::{Calls, FillTrial, SHAPES_AT_THE_LIMITS, twin};
 
 /// A cube with its flags, and the shape that the calls are given.
 pub struct CubeTrial {
@@ -16,16 +15,15 @@ pub struct CubeTrial {
 impl CubeTrial {
     /// A random code cube in which bytes may be wrong and cells missing. Now and then a flag is neither 0 nor 1, a slice has a wrong
     /// length, or the calls are given another shape.
-    pub fn random(random: &mut Random) -> CubeTrial {
-        let shape = random_shape(random);
+    pub fn random(random: &mut Random, shape: Shape) -> CubeTrial {
         let mut lent = FillTrial::new(random, shape);
         let last = lent.flags.len() - 1;
-        for _ in 0..random.pick(&[0, 0, 1, 2, 5]) {
+        for _ in 0..random.pick(&[0, 0, 1, 2, 5, 60]) {
             let cell = random.among(0..=last);
             lent.spoil(random, cell);
         }
         if random.chance(50) {
-            let percent = random.among(0..=60);
+            let percent = random.among(0..=95);
             lent.lose_percent(random, percent);
         }
         if random.chance(5) {

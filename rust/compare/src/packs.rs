@@ -141,6 +141,11 @@ impl Source {
 
 fn job(random: &mut Random) -> Vec<u8> {
     let shape = roomy_shape(random);
+    job_of_shape(random, shape)
+}
+
+/// A file to write, in a shape that has room for one.
+pub(crate) fn job_of_shape(random: &mut Random, shape: Shape) -> Vec<u8> {
     pack(shape, &random_file(random, shape), &[])
 }
 

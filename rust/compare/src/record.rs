@@ -14,22 +14,14 @@
 
 use reference::{Outcome, Received, Refusal, Scan};
 
-/// A call whose slices have more bytes than this is left out, so that a file stays short.
-const MOST_BYTES: usize = 131_072;
-
-/// A call is long where its slices have more bytes than this.
-const LONG: usize = 4_096;
-
-/// One in so many long calls is recorded.
-const ONE_IN: u64 = 7;
+/// Calls that take more bytes than this together are too long for a file.
+const MOST_BYTES: usize = 49_152;
 
 /// Calls that are recorded, one behind the other.
 #[derive(Default)]
 pub struct Calls {
     count: u64,
     bytes: Vec<u8>,
-    /// The long calls, recorded and not.
-    long: u64,
 }
 
 impl Calls {
@@ -41,9 +33,6 @@ impl Calls {
         numbers: &[usize],
         independent: impl FnOnce([&mut [u8]; N]) -> Result<T, E>,
     ) {
-        if self.leaves_out(before.iter().map(|slice| slice.len()).sum()) {
-            return;
-        }
         let mut after = before.map(<[u8]>::to_vec);
         let told = independent(after.each_mut().map(Vec::as_mut_slice)).map_err(Into::into);
         self.write_name(name);
@@ -69,16 +58,17 @@ impl Calls {
         self.write_u64(answer.into());
     }
 
+    /// Adds other calls, unless they are too long.
+    pub(crate) fn add(&mut self, calls: Calls) {
+        if calls.bytes.len() <= MOST_BYTES {
+            self.count += calls.count;
+            self.bytes.extend(calls.bytes);
+        }
+    }
+
     /// The file of these calls.
     pub fn into_file(self) -> Vec<u8> {
         [&self.count.to_le_bytes()[..], &self.bytes].concat()
-    }
-
-    /// Whether a call whose slices have so many bytes is left out.
-    fn leaves_out(&mut self, bytes: usize) -> bool {
-        let long = bytes > LONG;
-        self.long += u64::from(long);
-        bytes > MOST_BYTES || long && self.long % ONE_IN > 0
     }
 
     fn write_name(&mut self, name: &str) {

@@ -2,56 +2,98 @@
 
 use jibrufath::Shape;
 use reference::field;
+use reference::pack::read_air;
 use reference::random::Random;
+use reference::text::{Text, print};
 
 use crate::cube_trial::{CubeTrial, numbers};
-use crate::record::Calls;
+use crate::packs::job_of_shape;
+use crate::shapes::EDGE_WIDTHS;
 use crate::{
-    FromText, Kind, PLAN_KINDS, PlanFile, PlanLists, PlanPack, SHAPES_AT_THE_LIMITS, ScanTrial,
-    TEXT_KINDS, ToText, Trial, random_shape, twin,
+    Calls, FromText, Kind, PLAN_KINDS, PlanFile, PlanLists, PlanPack, SHAPES_AT_THE_LIMITS,
+    ScanTrial, Source, TEXT_KINDS, ToText, Trial, random_shape, twin,
 };
 
-/// The file of the calls for so many random packs, texts and plans, each kind in its turn, and for half as many cubes; with them calls
-/// for sizes, and for every byte and every two bytes of the field.
+/// The file of the calls for so many random packs, texts and plans, each kind in its turn, and for half as many cubes, but for those
+/// that are too long; with them calls for sizes, for cells of many widths, and for every byte and every two bytes of the field.
 pub fn recorded(seed: u64, count: u64) -> Vec<u8> {
     let mut random = Random::new(seed);
     let mut calls = Calls::default();
     record_field(&mut calls);
     record_sizes(&mut random, &mut calls);
+    record_widths(&mut random, &mut calls);
     for (_, kind) in (0..count).zip(Kind::all().into_iter().cycle()) {
-        match kind {
-            Kind::Pack(kind) => record_pack(&mut random, kind, &mut calls),
-            Kind::Text(kind) => record_text(&mut random, kind, &mut calls),
-            Kind::Plan(kind) => record_plan(&mut random, kind, &mut calls),
-        }
+        calls.add(match kind {
+            Kind::Pack(kind) => pack_calls(&mut random, kind),
+            Kind::Text(kind) => text_calls(&mut random, kind),
+            Kind::Plan(kind) => plan_calls(&mut random, kind),
+        });
     }
     for _ in 0..count / 2 {
-        CubeTrial::random(&mut random).record(&mut random, &mut calls);
-        ScanTrial::random(&mut random).record(&mut calls);
+        calls.add(cube_calls(&mut random));
     }
     calls.into_file()
 }
 
-fn record_pack(random: &mut Random, kind: usize, calls: &mut Calls) {
+fn pack_calls(random: &mut Random, kind: usize) -> Calls {
+    let mut calls = Calls::default();
     let trial = Trial::random(random, kind);
-    trial.record(random, calls);
+    trial.record(random, &mut calls);
     let pack = PlanPack::random(random, trial);
-    pack.record(random, calls);
-    ToText::random(random, pack.trial.pack).record(random, calls);
+    pack.record(random, &mut calls);
+    ToText::random(random, pack.trial.pack).record(random, &mut calls);
+    calls
 }
 
-fn record_text(random: &mut Random, kind: usize, calls: &mut Calls) {
+fn text_calls(random: &mut Random, kind: usize) -> Calls {
+    let mut calls = Calls::default();
     let (_, make) = TEXT_KINDS[kind];
     let text = make(random);
-    FromText::random(random, text).record(random, calls);
+    FromText::random(random, text).record(random, &mut calls);
+    calls
 }
 
-fn record_plan(random: &mut Random, kind: usize, calls: &mut Calls) {
+fn plan_calls(random: &mut Random, kind: usize) -> Calls {
+    let mut calls = Calls::default();
     let (_, make) = PLAN_KINDS[kind];
     let file = make(random);
-    PlanLists::random(random, &file).record(random, calls);
-    PlanPack::of_file(random, &file).record(random, calls);
-    PlanFile::random(random, file).record(random, calls);
+    PlanLists::random(random, &file).record(random, &mut calls);
+    PlanPack::of_file(random, &file).record(random, &mut calls);
+    PlanFile::random(random, file).record(random, &mut calls);
+    calls
+}
+
+fn cube_calls(random: &mut Random) -> Calls {
+    let mut calls = Calls::default();
+    let shape = random_shape(random);
+    CubeTrial::random(random, shape).record(random, &mut calls);
+    ScanTrial::random(random).record(&mut calls);
+    calls
+}
+
+/// Small cubes, and packs of them, with cells of every width up to 65 bytes and of the widths around the steps of a fast program.
+fn record_widths(random: &mut Random, calls: &mut Calls) {
+    for w in (1..=65).chain(EDGE_WIDTHS) {
+        let [l1, l2, l3] = [3; 3].map(|least| random.among(least..=4));
+        let shape = Shape::new(l1, l2, l3, w);
+        for _ in 0..3 {
+            CubeTrial::random(random, shape).record(random, calls);
+        }
+        if twin(shape).check_room().is_ok() {
+            record_packs_of(random, twin(shape), calls);
+        }
+    }
+}
+
+/// A file to write, and some of the packets of another one, in a shape that has room for them.
+fn record_packs_of(random: &mut Random, shape: reference::Shape, calls: &mut Calls) {
+    let job = job_of_shape(random, shape);
+    Trial::new(job).record(random, calls);
+    let air = Source::of_shape(random, shape).some_of_it(random);
+    let text = print(&Text::of_air(&read_air(&air).expect("a whole pack")));
+    FromText::new(text.into()).record(random, calls);
+    ToText::new(air.clone()).record(random, calls);
+    Trial::new(air).record(random, calls);
 }
 
 /// Every byte, and every two.

@@ -4,7 +4,7 @@ use jibrufath::Shape;
 use reference::random::Random;
 
 /// Widths around the steps that a fast program may take.
-const EDGE_WIDTHS: [usize; 21] = [
+pub(crate) const EDGE_WIDTHS: [usize; 21] = [
     15, 16, 17, 31, 32, 33, 63, 64, 65, 127, 128, 129, 255, 256, 257, 511, 512, 513, 1022, 1023,
     1024,
 ];
