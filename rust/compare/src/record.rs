@@ -190,3 +190,76 @@ impl Told for (Received, [usize; 3]) {
         [self.0.arrays(), self.1.arrays()].concat()
     }
 }
+
+#[cfg(test)]
+mod tests {
+    use super::*;
+
+    #[test]
+    fn the_form() {
+        let mut calls = Calls::default();
+        calls.call("scan", [&[7, 8], &[9]], &[1 << 32], |[first, _]| {
+            first[1] = 6;
+            Ok::<_, u8>(Scan { holes: 3, read: 4 })
+        });
+        let count = [1, 0, 0, 0, 0, 0, 0, 0];
+        let name = *b"\x04scan";
+        let changed = [2, 0, 0, 0, 7, 8, 1, 7, 6];
+        let kept = [1, 0, 0, 0, 9, 0];
+        let numbers = [1, 0, 0, 0, 0, 1, 0, 0, 0];
+        let array = [1, 2, 3, 0, 0, 0, 0, 0, 0, 0, 4, 0, 0, 0, 0, 0, 0, 0];
+        let file = [&count[..], &name, &[2], &changed, &kept, &numbers, &array];
+        assert_eq!(calls.into_file(), [&file.concat()[..], &[0; 8]].concat());
+    }
+
+    /// The last 8 bytes of a file: the answer of its last call.
+    fn answer<T: Told>(told: Result<T, Refusal>) -> u64 {
+        let mut calls = Calls::default();
+        calls.call("call", [], &[], |[]| told);
+        let file = calls.into_file();
+        let last = file.last_chunk().expect("an answer");
+        u64::from_le_bytes(*last)
+    }
+
+    #[test]
+    fn answers() {
+        let [number, place] = [18, 11].map(Refusal::from);
+        let place = Refusal {
+            place: Some(3),
+            ..place
+        };
+        assert_eq!(answer(Ok(())), 0);
+        assert_eq!(answer(Ok(27)), 0x1B00);
+        assert_eq!(answer(Ok(true)), 0x100);
+        assert_eq!(answer::<()>(Err(number)), 18);
+        assert_eq!(answer::<[usize; 3]>(Err(place)), 0x30B);
+    }
+
+    #[test]
+    fn arrays_are_0_with_a_refusal() {
+        let mut calls = Calls::default();
+        calls.call("call", [], &[], |[]| Err::<(Received, [usize; 3]), u8>(4));
+        let file = calls.into_file();
+        let arrays = [&[2, 16][..], &[0; 128], &[3], &[0; 24]].concat();
+        let answer = [4, 0, 0, 0, 0, 0, 0, 0];
+        assert!(file.ends_with(&[&arrays[..], &answer].concat()));
+    }
+
+    #[test]
+    fn long_calls_are_left_out() {
+        let calls = |len: usize| {
+            let mut calls = Calls::default();
+            calls.call("call", [&vec![0; len]], &[], |_| Ok::<_, u8>(()));
+            calls
+        };
+        let mut all = Calls::default();
+        for len in [MOST_BYTES, 100, 0] {
+            all.add(calls(len));
+        }
+        assert_eq!(all.count, 2);
+        assert_eq!(
+            all.bytes.len(),
+            calls(100).bytes.len() + calls(0).bytes.len()
+        );
+    }
+}
