@@ -6,6 +6,9 @@ use reference::random::Random;
 use crate::text_trial::nearly;
 use crate::{Calls, FillTrial, SHAPES_AT_THE_LIMITS, twin};
 
+/// With one of these added, a number is as good as before in its low 32 bits alone.
+pub(crate) const HIGH_BITS: [usize; 2] = [1 << 32, 1 << 63];
+
 /// A cube with its flags, and the shape that the calls are given.
 pub struct CubeTrial {
     lent: FillTrial,
@@ -33,9 +36,14 @@ impl CubeTrial {
             let len = nearly(random, slice.len());
             slice.resize(len, 0);
         }
-        let given = match random.chance(5) {
-            true => random.pick(&SHAPES_AT_THE_LIMITS).0,
-            false => shape,
+        let given = match random.among(0..=19) {
+            0 => random.pick(&SHAPES_AT_THE_LIMITS).0,
+            1 => {
+                let mut given = numbers(shape);
+                given[random.among(0..=3)] += random.pick(&HIGH_BITS);
+                shape_of(given)
+            }
+            _ => shape,
         };
         CubeTrial { lent, given }
     }
@@ -63,7 +71,7 @@ impl CubeTrial {
         calls.call("mend", slices, &numbers, |[cube, flags, second]| {
             reference::mend(shape, cube, flags, second)
         });
-        let axis = random.pick(&[1, 1, 1, 2, 2, 2, 3, 3, 3, 0, 4, usize::MAX]);
+        let axis = random.pick(&[1, 1, 1, 2, 2, 2, 3, 3, 3, 0, 4, HIGH_BITS[0] + 1]);
         let numbers = [&numbers[..], &[axis]].concat();
         calls.call("mend_axis", [cube], &numbers, |[cube]| {
             reference::mend_axis(shape, axis, cube)
@@ -74,4 +82,9 @@ impl CubeTrial {
 /// A shape as the calls take it.
 pub(crate) fn numbers(shape: Shape) -> [usize; 4] {
     [shape.l1, shape.l2, shape.l3, shape.w]
+}
+
+/// The shape of these numbers.
+pub(crate) fn shape_of([l1, l2, l3, w]: [usize; 4]) -> Shape {
+    Shape::new(l1, l2, l3, w)
 }

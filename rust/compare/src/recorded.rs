@@ -6,12 +6,12 @@ use reference::pack::read_air;
 use reference::random::Random;
 use reference::text::{Text, print};
 
-use crate::cube_trial::{CubeTrial, numbers};
+use crate::cube_trial::{CubeTrial, HIGH_BITS, numbers, shape_of};
 use crate::packs::job_of_shape;
 use crate::shapes::EDGE_WIDTHS;
 use crate::{
     Calls, FromText, Kind, PLAN_KINDS, PlanFile, PlanLists, PlanPack, SHAPES_AT_THE_LIMITS,
-    ScanTrial, Source, TEXT_KINDS, ToText, Trial, random_shape, twin,
+    ScanTrial, Source, TEXT_KINDS, ToText, Trial, narrow_shapes, random_shape, twin,
 };
 
 /// The file of the calls for so many random packs, texts and plans, each kind in its turn, and for half as many cubes, but for those
@@ -67,12 +67,24 @@ fn cube_calls(random: &mut Random) -> Calls {
     let mut calls = Calls::default();
     let shape = random_shape(random);
     CubeTrial::random(random, shape).record(random, &mut calls);
-    ScanTrial::random(random).record(&mut calls);
+    let mut scan = ScanTrial::random(random);
+    if random.chance(5) {
+        let high = random.pick(&HIGH_BITS);
+        match random.chance(50) {
+            true => scan.axis += high,
+            false => scan.line += high,
+        }
+    }
+    scan.record(&mut calls);
     calls
 }
 
-/// Small cubes, and packs of them, with cells of every width up to 65 bytes and of the widths around the steps of a fast program.
+/// Small cubes, and packs of them, with cells of every width up to 65 bytes and of the widths around the steps of a fast program; and
+/// longer cubes of the narrowest cells.
 fn record_widths(random: &mut Random, calls: &mut Calls) {
+    for shape in narrow_shapes().take_while(|shape| shape.w <= 20) {
+        CubeTrial::random(random, shape).record(random, calls);
+    }
     for w in (1..=65).chain(EDGE_WIDTHS) {
         let [l1, l2, l3] = [3; 3].map(|least| random.among(least..=4));
         let shape = Shape::new(l1, l2, l3, w);
@@ -143,7 +155,7 @@ fn record_sizes(random: &mut Random, calls: &mut Calls) {
         let mut any = numbers(good);
         any[random.among(0..=3)] = random.pick(&EDGE_NUMBERS);
         any[random.among(0..=3)] = random.number() as usize >> random.among(0..=63);
-        shapes.extend([good, Shape::new(any[0], any[1], any[2], any[3])]);
+        shapes.extend([good, shape_of(any)]);
     }
     for shape in shapes {
         record_sizes_of(shape, calls);
