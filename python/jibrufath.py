@@ -734,7 +734,7 @@ def _overlap(first: Any, second: Any) -> bool:
 
 
 def _fresh(length: int) -> bytes:
-    """Bytes that hold anything yet, of which a call writes all that is shown later.
+    """Bytes that may hold anything, of which a call writes all that is shown later.
 
     They are written before anyone else sees them, as extensions in C do it. Clearing them first and copying them
     afterwards would take longer than the call.
@@ -757,7 +757,7 @@ _new_bytes.restype = ctypes.py_object
 _LIBRARY = f"libjibrufath.so.{__version__.split('.')[0]}"
 
 _MISSING = """\
-{path} cannot be loaded: {error}.
+the library cannot be loaded: {error}.
 JIBRUFATH_LIBRARY names the file of the library. Without it {library} is looked for beside {module}, or else where the
 system's loader looks. In a checkout `targets/build x86-64` makes target/archives/x86-64/{library}: name that file, or
 copy it to one of these places."""
@@ -814,7 +814,7 @@ def _load() -> dict[str, Any]:
         library = ctypes.CDLL(path)
         return {name: _declared(library, name) for name in _SIGNATURES}
     except (OSError, AttributeError) as error:
-        message = _MISSING.format(path=path, error=error, library=_LIBRARY, module=__file__)
+        message = _MISSING.format(error=error, library=_LIBRARY, module=__file__)
         raise ImportError(message, name=__name__, path=path) from error
 
 

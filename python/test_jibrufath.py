@@ -28,8 +28,10 @@ MODULE = pathlib.Path(__file__).resolve().with_name("jibrufath.py")
 ROOT = MODULE.parent.parent
 ARCHIVES = ROOT / "target" / "archives"
 NAME = "libjibrufath.so.3"
+WITH_AVX2 = ARCHIVES / "x86-64-v3" / NAME
 os.environ.setdefault("JIBRUFATH_LIBRARY", str(ARCHIVES / "x86-64" / NAME))
 sys.path.insert(0, str(MODULE.parent))
+sys.dont_write_bytecode = True      # the tests leave the work tree as it was
 
 import jibrufath  # noqa: E402  (the path of the library is set first)
 from jibrufath import Limit, Number, Plan, Refusal, Shape  # noqa: E402
@@ -386,6 +388,10 @@ class Packs(unittest.TestCase):
 
         self.assertEqual(jibrufath.air_pack(shape, heard()), pack)
 
+    def test_packets_that_name_no_cell(self):
+        outside = changed(changed(PACK, 17, 255), 18, 128)
+        self.assertEqual(next(jibrufath.packets(outside)), ((255, 128, 0), PACK[20:25]))
+
     def test_limit(self):
         air = jibrufath.air_pack(Shape(5, 4, 3, 16), [])
         self.assertEqual(jibrufath.receive(air, limit=1_112).left, 60)
@@ -459,7 +465,7 @@ class Texts(unittest.TestCase):
             ("shape 3 3 3 5", 1),
             (good[:-1], 3),
             (good + "\n", 4),
-            (good.replace("08", "0é", 1), 2),
+            (good.replace("08", "0é8", 1), 2),
             (good + "\ud800\n", 4),
             (good.replace("\n", "\u2028", 1), 1),
             (good.replace("packet", "Packet"), 2),
@@ -698,7 +704,7 @@ class Arguments(unittest.TestCase):
         with mmap.mmap(-1, len(file)) as mapped:
             mapped[:] = file
             self.assertEqual(jibrufath.write(shape, mapped), pack)
-        for like in (bytearray, memoryview, Longer, every_second, lambda data: memoryview(bytearray(data)),
+        for like in (bytearray, memoryview, Longer, every_second, lambda data: every_second(data, bytearray),
                      lambda data: array.array("B", data), lambda data: (ctypes.c_ubyte * len(data))(*data)):
             self.assertEqual(jibrufath.write(shape, like(file)), pack)
             self.assertEqual(jibrufath.receive(like(pack)).file, file)
@@ -726,8 +732,9 @@ class Arguments(unittest.TestCase):
     def test_memory_that_is_not_contiguous(self):
         with mock.patch.dict(jibrufath._calls, fill=never, mend_axis=never):
             gaps = memoryview(bytearray(270))[::2]
-            self.assertRaisesRegex(TypeError, "contiguous", jibrufath.fill, SMALL, gaps, bytearray(27))
-            self.assertRaisesRegex(TypeError, "contiguous", jibrufath.mend_axis, SMALL, gaps, 1)
+            for call in (lambda: jibrufath.fill(SMALL, gaps, bytearray(27)),
+                         lambda: jibrufath.mend_axis(SMALL, gaps, 1)):
+                self.assertRaisesRegex(TypeError, "cube is not contiguous", call)
 
     def test_memory_that_overlaps(self):
         both = bytearray(CUBE + bytes(27))
@@ -737,6 +744,8 @@ class Arguments(unittest.TestCase):
                                 (view[:135], view[50:77]), (view[27:], view[1:28])]:
                 self.assertRaisesRegex(ValueError, "overlap", jibrufath.fill, SMALL, cube, flags)
         self.assertEqual(jibrufath.fill(SMALL, view[:135], view[135:]), 0)
+        behind = memoryview(bytearray(27) + CUBE)
+        self.assertEqual(jibrufath.fill(SMALL, behind[27:], behind[:27]), 0)
 
     def test_memory_in_place(self):
         """Of a larger buffer only the part that is lent changes."""
@@ -783,9 +792,9 @@ class Longer(bytes):
         return super().__len__() + 1_000
 
 
-def every_second(data):
+def every_second(data, kind=bytes):
     """A view of these bytes that is not contiguous."""
-    return memoryview(bytes(byte for pair in zip(data, data) for byte in pair))[::2]
+    return memoryview(kind(byte for pair in zip(data, data) for byte in pair))[::2]
 
 
 def never(*arguments):
@@ -825,8 +834,12 @@ class Library(unittest.TestCase):
         wrong = "/nowhere/" + NAME
         self.check_missing(run(self.PRINT, JIBRUFATH_LIBRARY=wrong), wrong)
 
-    def test_missing_everywhere(self):
-        self.check_missing(run(self.PRINT, self.folder, LD_LIBRARY_PATH=""), NAME)
+    def test_missing_where_the_loader_looks(self):
+        """What the system may have besides does not matter: the loader ends at an empty file."""
+        (self.folder / "lib").mkdir()
+        (self.folder / "lib" / NAME).touch()
+        ended = run(self.PRINT, self.folder, LD_LIBRARY_PATH=str(self.folder / "lib"))
+        self.check_missing(ended, f"{NAME}: file too short")
 
     def test_another_library(self):
         another = importlib.util.find_spec("_ctypes").origin
@@ -854,13 +867,13 @@ def has_avx2():
 
 
 @unittest.skipUnless(has_avx2(), "the processor has no AVX2")
+@unittest.skipUnless(WITH_AVX2.exists(), "targets/build has not made the library for x86-64-v3")
 class WithAvx2(unittest.TestCase):
     def test_same_answers(self):
-        path = ARCHIVES / "x86-64-v3" / NAME
-        second = second_module(path)
+        second = second_module(WITH_AVX2)
         maps = pathlib.Path("/proc/self/maps").read_text()
-        self.assertIn(str(path), maps)
-        self.assertIn(str(pathlib.Path(os.environ["JIBRUFATH_LIBRARY"]).absolute()), maps)
+        for loaded in (os.environ["JIBRUFATH_LIBRARY"], WITH_AVX2):
+            self.assertIn(os.path.realpath(loaded), maps)
         rng = random.Random(12)
         for _ in range(200):
             shape = random_shape(rng, 9, 70)
