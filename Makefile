@@ -41,7 +41,7 @@ export PKGCONFIG
 all:
 	targets/build $(TARGETS)
 
-target/archives/SHA256SUMS: crates.txt include/jibrufath.h targets/build targets/clang $(shell find crates -type f 2>/dev/null)
+target/archives/SHA256SUMS: crates.txt include/jibrufath.h targets/build targets/clang targets/list $(shell find crates -type f 2>/dev/null)
 	targets/build
 
 # The archives are there, are what their checksums say, and belong to the header.
@@ -66,7 +66,8 @@ uninstall:
 	rm -f $(addprefix $(DESTDIR),$(INCLUDEDIR)/jibrufath.h $(PYTHONDIR)/jibrufath.py $(addprefix $(LIBDIR)/,libjibrufath.a $(SHARED) $(HWCAPS)/$(SHARED) pkgconfig/jibrufath.pc))
 
 # All times are that of the commit, so that the same commit gives the same tarball.
-dist: all whole
+dist: whole
+	@for target in $(shell cat targets/list); do test -d $(ARCHIVES)/$$target || { echo "there is no archive for $$target; make builds them all" >&2; exit 1; }; done
 	rm -rf target/dist
 	mkdir -p target/dist/$(DIST)
 	git ls-files $(PACKED) | tar -cf - -T - | tar -xf - -C target/dist/$(DIST)

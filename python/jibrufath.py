@@ -20,7 +20,7 @@ field, is a ValueError. Input that the library refuses is a `Refusal`, which is 
 no memory the error is MemoryError.
 
 The library is the file that JIBRUFATH_LIBRARY names; without it the one beside this module, or else the one that the
-system's loader finds.
+system's loader finds, or else the one two folders above, where `make install` has it.
 """
 
 from __future__ import annotations
@@ -759,8 +759,8 @@ _LIBRARY = f"libjibrufath.so.{__version__.split('.')[0]}"
 _MISSING = """\
 the library cannot be loaded: {error}.
 JIBRUFATH_LIBRARY names the file of the library. Without it {library} is looked for beside {module}, or else where the
-system's loader looks. In a checkout `targets/build x86-64` makes target/archives/x86-64/{library}: name that file, or
-copy it to one of these places."""
+system's loader looks, or else two folders above, where `make install` puts it. In a checkout `targets/build x86-64`
+makes target/archives/x86-64/{library}: name that file, or copy it to one of these places."""
 
 # What each call takes: s a slice, which is a pointer and a length, n a number, c an array of counts, b a byte.
 _SIGNATURES = {
@@ -798,24 +798,36 @@ _TYPES = {
 }
 
 
-def _path() -> str:
-    """The library's path, or its name alone where the loader is to look for it."""
+def _paths() -> list[str]:
+    """Where the library is looked for, in this order; a name alone is for the loader to look for."""
     named = os.environ.get("JIBRUFATH_LIBRARY")
     if named:
-        return os.path.abspath(named)
-    beside = os.path.join(os.path.dirname(os.path.abspath(__file__)), _LIBRARY)
-    return beside if os.path.exists(beside) else _LIBRARY
+        return [os.path.abspath(named)]
+    folder = os.path.dirname(os.path.abspath(__file__))
+    beside = os.path.join(folder, _LIBRARY)
+    installed = os.path.normpath(os.path.join(folder, "..", "..", _LIBRARY))
+    return [path for path in (beside, _LIBRARY, installed) if path == _LIBRARY or os.path.exists(path)]
+
+
+def _library() -> ctypes.CDLL:
+    """The first library of these paths that can be loaded."""
+    *paths, last = _paths()
+    for path in paths:
+        try:
+            return ctypes.CDLL(path)
+        except OSError:
+            pass
+    return ctypes.CDLL(last)
 
 
 def _load() -> dict[str, Any]:
     """The calls of the library by their names."""
-    path = _path()
     try:
-        library = ctypes.CDLL(path)
+        library = _library()
         return {name: _declared(library, name) for name in _SIGNATURES}
     except (OSError, AttributeError) as error:
         message = _MISSING.format(error=error, library=_LIBRARY, module=__file__)
-        raise ImportError(message, name=__name__, path=path) from error
+        raise ImportError(message, name=__name__) from error
 
 
 def _declared(library: ctypes.CDLL, name: str) -> Any:

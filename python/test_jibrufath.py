@@ -830,6 +830,13 @@ class Library(unittest.TestCase):
         shutil.copy(self.library, place / NAME)
         self.assertEqual(run(self.PRINT, self.folder, LD_LIBRARY_PATH=str(place)).stdout, "b'8'\n")
 
+    def test_installed(self):
+        modules = self.folder / "lib" / "python3" / "dist-packages"
+        modules.mkdir(parents=True)
+        shutil.copy(MODULE, modules)
+        shutil.copy(self.library, self.folder / "lib" / NAME)
+        self.assertEqual(run(self.PRINT, modules).stdout, "b'8'\n")
+
     def test_missing(self):
         wrong = "/nowhere/" + NAME
         self.check_missing(run(self.PRINT, JIBRUFATH_LIBRARY=wrong), wrong)

@@ -34,7 +34,7 @@ fn player(name: &str, besides: &[&str]) -> PathBuf {
         .arg(repository.join("include"))
         .args(besides)
         .arg(repository.join("targets/play.c"))
-        .arg(repository.join("target/staticlib/libjibrufath.a"))
+        .arg(repository.join("target/archives/x86-64/libjibrufath.a"))
         .arg("-o")
         .arg(&program)
         .status()
