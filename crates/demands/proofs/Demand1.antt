@@ -16,7 +16,7 @@ use Rattle.fill.specs.Fill.{CellsLeft, FillOutcome, fill-refused, fill-done, fi
 use Rattle.mend.specs.Mend.{MendOutcome, mend-refused, mend-done, mend-uncorrected, AxisOutcome, axis-refused, axis-done}
 use Rattle.pack.specs.Reading.{headerOf, jobOf, airOf}
 use Rattle.cursor.specs.declared.Cursor.{Cursor}
-use Rattle.pack.specs.Writing.{sizeChecked, airSizeChecked, StartOutcome, start-refused, started, AirOutcome, air-kept, air-written}
+use Rattle.pack_writer.specs.Writing.{sizeChecked, airSizeChecked, StartOutcome, start-refused, started, AirOutcome, air-kept, air-written}
 use Rattle.writer.specs.Write.{WriteOutcome, write-refused, write-done}
 use Rattle.receiver.specs.declared.Counts.{Counts}
 use Rattle.receiver.specs.Gathering.{Reception, unfit, index, contradiction, some-left, none-left}

@@ -18,8 +18,8 @@ use Rattle.fill.specs.Fill.{flagsChecked}
 use Rattle.mend.specs.Mend.{axisChecked, mendChecked, wholeChecked}
 use Rattle.pack.specs.Packs.{airSize, packSize}
 use Rattle.pack.specs.Reading.{headerOf, jobOf, airOf}
-use Rattle.pack.specs.Writing.{sizeChecked, airSizeChecked, startChecked, airChecked}
 use Rattle.pack.proofs.Numbers.{shape-fails, header-fails, job-fails, air-fails}
+use Rattle.pack_writer.specs.Writing.{sizeChecked, airSizeChecked, startChecked, airChecked}
 use Rattle.writer.specs.Write.{writeChecked}
 use Rattle.receiver.specs.Receive.{Memory, receiveChecked}
 use Rattle.text.specs.Text.{textIn, textSizeChecked, writeTextChecked}

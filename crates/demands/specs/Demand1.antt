@@ -23,7 +23,7 @@ use Rattle.cursor.specs.declared.Cursor.{Cursor}
 use Rattle.pack.specs.declared.Header.{Header}
 use Rattle.pack.specs.declared.Section.{Section}
 use Rattle.pack.specs.Reading.{headerOf, jobOf, airOf}
-use Rattle.pack.specs.Writing.{sizeChecked, airSizeChecked, StartOutcome, AirOutcome}
+use Rattle.pack_writer.specs.Writing.{sizeChecked, airSizeChecked, StartOutcome, AirOutcome}
 use Rattle.writer.specs.Write.{WriteOutcome}
 use Rattle.receiver.specs.declared.Counts.{Counts}
 use Rattle.receiver.specs.Gathering.{Reception, file, noCounts}

@@ -10,10 +10,10 @@ use Rattle.shape.specs.declared.Shape.{Shape}
 use Rattle.shape.specs.declared.Sizes.{Sizes}
 use Rattle.shape.specs.Shapes.{Valid, cells, capacity, sizes, shapeChecked}
 use Rattle.shape.proofs.Valid.{shape-passed, data-length-le, volume-le, bytes-le}
-use Rattle.pack.specs.declared.PackSize.{PackSize}
-use Rattle.pack.specs.declared.PackSize.the-variants.{Bytes, Refused}
 use Rattle.pack.specs.Packs.{airSize, packSize}
-use Rattle.pack.specs.Writing.{sizeChecked, sizeValue}
+use Rattle.pack_writer.specs.declared.PackSize.{PackSize}
+use Rattle.pack_writer.specs.declared.PackSize.the-variants.{Bytes, Refused}
+use Rattle.pack_writer.specs.Writing.{sizeChecked, sizeValue}
 
 pub record Bounded (z : Sizes) : Type 0 where
   pub cells-le : z .cells ≤ 16581375

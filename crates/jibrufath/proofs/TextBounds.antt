@@ -9,13 +9,13 @@ use Rattle.answer.proofs.Values.{check-passed, then-passed}
 use Rattle.shape.specs.declared.Shape.{Shape}
 use Rattle.pack.specs.declared.Header.{Header}
 use Rattle.pack.specs.declared.Section.{Section}
-use Rattle.pack.specs.declared.PackSize.{PackSize}
-use Rattle.pack.specs.declared.PackSize.the-variants.{Bytes}
 use Rattle.pack.specs.Packs.{airSize}
 use Rattle.pack.specs.Reading.{airOf}
-use Rattle.pack.specs.Writing.{sizeValue, airSizeChecked}
 use Rattle.pack.proofs.Sound.{air-sound, packets-le}
-use Rattle.pack.proofs.Starting.{air-size-passed}
+use Rattle.pack_writer.specs.declared.PackSize.{PackSize}
+use Rattle.pack_writer.specs.declared.PackSize.the-variants.{Bytes}
+use Rattle.pack_writer.specs.Writing.{sizeValue, airSizeChecked}
+use Rattle.pack_writer.proofs.Starting.{air-size-passed}
 use Rattle.text.specs.Form.{Broken, first-broken, packet-broken}
 use Rattle.text.specs.Text.{textIn, writeTextChecked, textSizeChecked, WriteTextOutcome, write-refused, write-outside, write-done, ReadTextOutcome, read-broken, read-refused, read-outside, read-done, PackSizeOutcome, size-broken, size-checked}
 use Rattle.text_writer.proofs.TextLines.{text-le}

@@ -1,7 +1,7 @@
 // The call that says what memory a pack's calls are lent, from its section 1 alone.
 use pack::Header;
 use pack::HeaderRead;
-use pack::PackSize;
+use pack_writer::PackSize;
 ghost use mathlib.Core.Path.{_≡_};
 ghost use Rattle.pack.proofs.Sound.{HeaderSound};
 ghost use Rattle.jibrufath.specs.Needs.{needsOf, NeedsExport};
@@ -30,7 +30,7 @@ fn needs_of(h: Header) -> [u64; 16]
 {
     let sh = h.shape;
     let z = h.sizes;
-    match pack::pack_bytes(sh) {
+    match pack_writer::pack_bytes(sh) {
         PackSize::Refused(_) => [0; 16],
         PackSize::Bytes(size) => [
             sh.l1 as u64,

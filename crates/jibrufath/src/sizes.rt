@@ -1,11 +1,11 @@
 // The calls that say how much memory a shape's calls are lent.
-use pack::PackSize;
+use pack_writer::PackSize;
 use shape::Measured;
 use shape::Shape;
 ghost use mathlib.Core.Path.{_≡_};
 ghost use Rattle.answer.specs.Values.{checked};
 ghost use Rattle.shape.specs.Shapes.{shapeChecked};
-ghost use Rattle.pack.specs.Writing.{sizeChecked};
+ghost use Rattle.pack_writer.specs.Writing.{sizeChecked};
 ghost use Rattle.jibrufath.specs.Exports.{shape, packed};
 ghost use Rattle.jibrufath.specs.Inner.Sizes.{SizesPacked};
 
@@ -54,7 +54,7 @@ pub extern "C" fn jibrufath_pack_bytes(l1: usize, l2: usize, l3: usize, w: usize
         l3: l3,
         w: w,
     };
-    match pack::pack_bytes(sh) {
+    match pack_writer::pack_bytes(sh) {
         PackSize::Refused(f) => answer::number(f),
         PackSize::Bytes(n) => 256 * (n as u64),
     }

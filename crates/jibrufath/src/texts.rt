@@ -1,10 +1,10 @@
 // The calls on texts: the text of an air pack, the air pack of a text, and how much memory each asks for.
 use crate::answer_word;
-use pack::PackSize;
+use pack_writer::PackSize;
 ghost use mathlib.Core.Path.{_≡_};
 ghost use Prim.Native.Nat.{_<_, _^_};
 ghost use Rattle.answer.specs.Values.{checked};
-ghost use Rattle.pack.specs.Writing.{sizeValue};
+ghost use Rattle.pack_writer.specs.Writing.{sizeValue};
 ghost use Rattle.text.specs.Text.{WriteTextOutcome, ReadTextOutcome, PackSizeOutcome, textSizeChecked};
 ghost use Rattle.jibrufath.specs.Exports.{Exported, uncounted, whole, beside, packed};
 

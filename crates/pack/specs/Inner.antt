@@ -1,3 +1,2 @@
 -- What the functions of the crate `pack` promise each other, a file a module.
 pub mod Packets
-pub mod Writing

@@ -2,5 +2,4 @@
 pub mod Packs
 pub mod Reading
 pub mod Packets
-pub mod Writing
 pub mod Inner

@@ -1,12 +1,8 @@
-// Packs: three sections, each read and written from the byte where the one before ended. Nobody else knows where a byte of a pack stands.
-mod air;
+// Packs: three sections, each read from the byte where the one before ended. Only this crate and `pack_writer`, whose contracts are made of the definitions
+// of this one, know where a byte of a pack stands.
 mod packets;
 mod reading;
-mod writing;
 
-pub use air::air_bytes;
-pub use air::start_air;
-pub use air::write_coordinates;
 use answer::Refusal;
 use cursor::Cursor;
 pub use packets::first_outside;
@@ -17,9 +13,6 @@ pub use reading::read_header;
 pub use reading::read_job;
 use shape::Shape;
 use shape::Sizes;
-pub use writing::pack_bytes;
-pub use writing::write_air;
-pub use writing::write_data;
 
 // A section: its first byte behind its count, and the count.
 pub struct Section {
@@ -60,16 +53,4 @@ pub enum PacketRead {
 pub enum PartsRead {
     Parts(u8, u8, u8, usize),
     Absent,
-}
-
-// The cursor behind what stands before the packets of an air pack.
-pub enum AirStart {
-    Started(Cursor),
-    Refused(Refusal),
-}
-
-// The bytes of a pack with every cell, or with so many packets.
-pub enum PackSize {
-    Bytes(usize),
-    Refused(Refusal),
 }

@@ -10,8 +10,8 @@ use Rattle.span.proofs.Copying.{copied-whole}
 use Rattle.span.proofs.Putting.{copied-put, put-put, put-all}
 use Rattle.cursor.specs.declared.Cursor.{Cursor}
 use Rattle.cursor.specs.Steps.{wordBytes}
-use Rattle.pack.specs.Writing.{Laid}
-use Rattle.pack.proofs.Laying.{laid-laid, part-length}
+use Rattle.pack_writer.specs.Writing.{Laid}
+use Rattle.pack_writer.proofs.Laying.{laid-laid, part-length}
 use Rattle.plan_form.specs.Form.{lists, countsOf, planBytes, section}
 use Rattle.plan.specs.Calls.{begun}
 

@@ -7,7 +7,7 @@ use lib.ListN.{length, getD, drop, take-append-drop}
 use lib.Seq.{getD-take, getD-drop, drop-drop, drop-length}
 use Rattle.cursor.specs.Steps.{word, wordBytes}
 use Rattle.pack.proofs.AirPacks.{word-laid}
-use Rattle.pack.proofs.Laying.{part-length}
+use Rattle.pack_writer.proofs.Laying.{part-length}
 use Rattle.plan_form.specs.declared.PlanCounts.{PlanCounts}
 use Rattle.plan_form.specs.Entries.{Bytes}
 use Rattle.plan_form.specs.Form.{planEnd, planCounts, planWith, closuresIn, fibresIn, splicesIn, planIn, countsOf, planOf, planBytes, section, listsIn}

@@ -7,7 +7,7 @@ ghost use Prim.Native.Nat.{_+_, _%_, _≤_};
 ghost use lib.ListN.{length};
 ghost use Rattle.span.specs.Decision.{Decides};
 ghost use Rattle.cursor.specs.Steps.{wordBytes};
-ghost use Rattle.pack.specs.Writing.{Laid};
+ghost use Rattle.pack_writer.specs.Writing.{Laid};
 ghost use Rattle.plan_form.specs.Form.{lists, planBytes};
 
 // Whether lists of so many bytes have whole entries, and the output room for the file and no more. Differences avoid a sum that could wrap.

@@ -15,17 +15,17 @@ use Rattle.span.proofs.Stretches.{stretch-end}
 use Rattle.shape.specs.declared.Shape.{Shape}
 use Rattle.cursor.specs.declared.Cursor.{Cursor}
 use Rattle.printing.specs.Text.{ascii}
-use Rattle.pack.specs.declared.AirStart.{AirStart}
-use Rattle.pack.specs.declared.AirStart.the-variants.{Started, Refused as NoStart}
 use Rattle.pack.specs.Packs.{Packet, packetBytes, packets, airPack, airHead, airSize}
 use Rattle.pack.specs.Packets.{packetNo}
 use Rattle.pack.proofs.Written.{Sized, packets-length, packets-append, air-laid}
 use Rattle.pack.proofs.AirPacks.{air-length}
-use Rattle.pack.proofs.Laying.{laid-laid}
+use Rattle.pack_writer.specs.declared.AirStart.{AirStart}
+use Rattle.pack_writer.specs.declared.AirStart.the-variants.{Started, Refused as NoStart}
+use Rattle.pack_writer.proofs.Laying.{laid-laid}
 use Rattle.answer.specs.declared.Refusal.{Refusal}
 use Rattle.answer.specs.Values.{Value, gives, refused, refused-at, Checked, passes, fails, check, checked, andThen, refusal}
 use Rattle.answer.proofs.Values.{passes-fails, refusal-gives, checked-fails}
-use Rattle.pack.specs.Writing.{airSizeChecked, startChecked, startValue, StartOutcome, start-refused, started, Laid}
+use Rattle.pack_writer.specs.Writing.{airSizeChecked, startChecked, startValue, StartOutcome, start-refused, started, Laid}
 use Rattle.text.specs.Form.{packetLine, packetLines, firstLine, textOf, Formed, Broken}
 use Rattle.text.specs.Text.{ReadTextOutcome, read-refused, read-outside, read-done, PackSizeOutcome, size-checked}
 use Rattle.text.specs.Inner.Lines.{hexValue, pairByte, pairBytes, HexLine, ThreeOutcome}

@@ -14,11 +14,11 @@ use Rattle.pack.specs.declared.Section.{Section}
 use Rattle.pack.specs.Packs.{Packet, airPack, airSize}
 use Rattle.pack.specs.Reading.{headerFor, airOf}
 use Rattle.pack.specs.Packets.{packetIn, packetsIn, packetNo, FirstOutside}
-use Rattle.pack.specs.Writing.{airSizeChecked, startChecked}
 use Rattle.pack.proofs.Sound.{air-sound}
 use Rattle.pack.proofs.Written.{Sized, air-read}
-use Rattle.pack.proofs.Starting.{start-passed, start-passes}
 use Rattle.pack.proofs.AirPacks.{air-length, packetsIn-length, packetsIn-at, Octets, packetIn-size, packetsIn-sized, packetIn-bytes, named-in-range, in-range-named, air-back, packets-back, airPack-bytes}
+use Rattle.pack_writer.specs.Writing.{airSizeChecked, startChecked}
+use Rattle.pack_writer.proofs.Starting.{start-passed, start-passes}
 use Rattle.text.specs.Form.{textOf, Formed, InForm, Broken}
 use Rattle.text.specs.Text.{textIn, writeTextChecked, WriteTextOutcome, write-refused, write-outside, write-done, Inside, Outside, ReadTextOutcome, read-broken, read-refused, read-outside, read-done, PackSizeOutcome, size-broken, size-checked}
 use Rattle.text.specs.Theorems.{ReadsBack, WritesBack, OneReading, BrokenOrForm, OneBroken}

@@ -9,8 +9,8 @@ use answer::Fault;
 use answer::PacketFault;
 use answer::Refusal;
 use cursor::Cursor;
-use pack::AirStart;
-use pack::PackSize;
+use pack_writer::AirStart;
+use pack_writer::PackSize;
 ghost use mathlib.Core.Path.{_≡_};
 ghost use mathlib.Core.List.{List};
 ghost use Prim.Native.Nat.{ℕ, _+_, _*_, _≤_};
@@ -18,7 +18,7 @@ ghost use lib.ListN.{length, drop};
 ghost use Rattle.answer.specs.Values.{answerValue, passes};
 ghost use Rattle.span.specs.Span.{Put};
 ghost use Rattle.pack.specs.Packs.{Packet, packetBytes, packets, airPack};
-ghost use Rattle.pack.specs.Writing.{sizeValue, startChecked, Laid};
+ghost use Rattle.pack_writer.specs.Writing.{sizeValue, startChecked, Laid};
 ghost use Rattle.text.specs.Text.{ReadTextOutcome, PackSizeOutcome};
 ghost use Rattle.text.specs.Inner.Lines.{hexValue, pairBytes, HexLine};
 ghost use Rattle.text.specs.Inner.Scan.{Scanning};
@@ -36,7 +36,7 @@ pub fn text_pack_bytes(text: &[u8]) -> PackSize
 {
     match scan(text) {
         Scanned::Broken(n) => PackSize::Refused(Refusal::Line(n)),
-        Scanned::Whole(s) => pack::air_bytes(s.shape, s.packets as u32),
+        Scanned::Whole(s) => pack_writer::air_bytes(s.shape, s.packets as u32),
     }
 }
 
@@ -55,7 +55,7 @@ fn read_whole(text: &[u8], air: &mut [u8], s: Contents) -> Answer
     requires { ⌜ Read (now text) s ⌝ }
     ensures { λ r. ⌜ ReadTextOutcome (now (text .entry)) (now (air .entry)) (now (air .exit)) (answerValue r) ⌝ }
 {
-    match pack::air_bytes(s.shape, s.packets as u32) {
+    match pack_writer::air_bytes(s.shape, s.packets as u32) {
         PackSize::Refused(f) => Answer::Refused(f),
         PackSize::Bytes(size) => {
             if air.len() != size {
@@ -75,7 +75,7 @@ fn put_air(text: &[u8], air: &mut [u8], s: Contents)
     requires { ⌜ Read (now text) s × (s .inside ≡ s .packets) × (startChecked (s .shape) (s .packets) (length (now air)) ≡ passes tt) ⌝ }
     ensures { λ _. ⌜ ((ks : List Packet) → Scanning (now (text .entry)) s ks → now (air .exit) ≡ airPack (s .shape) ks) ⌝ }
 {
-    let started = pack::start_air(air, s.shape, s.packets as u32);
+    let started = pack_writer::start_air(air, s.shape, s.packets as u32);
     let AirStart::Started(first) = started else {
         return;
     };
@@ -112,7 +112,7 @@ fn put_packet(text: &[u8], air: &mut [u8], turn: Turn, w: usize) -> Turn
     let ThreeRead::Three(a, b, c, end) = read else {
         return turn;
     };
-    let cell = pack::write_coordinates(air, turn.next, a as u8, b as u8, c as u8);
+    let cell = pack_writer::write_coordinates(air, turn.next, a as u8, b as u8, c as u8);
     let to = cell.at;
     decode(text, air, end, to, w);
     Turn {

@@ -3,7 +3,7 @@ use libc::STDIN_FILENO;
 use libc::STDOUT_FILENO;
 use pack::Header;
 use pack::JobRead;
-use pack::PackSize;
+use pack_writer::PackSize;
 use printing::LIMIT;
 ghost use mathlib.Core.Path.{_≡_};
 ghost use Prim.Native.Nat.{_≤_};
@@ -46,7 +46,7 @@ fn print_pack(job: &[u8], cube: &mut [u8], output: &mut [u8], h: Header) -> usiz
     ensures { λ r. ⌜ Counts r (now (output .exit)) ⌝ }
     ensures { λ r. ⌜ Prints (now (job .entry)) (take r (now (output .exit))) ⌝ }
 {
-    match pack::pack_bytes(h.shape) {
+    match pack_writer::pack_bytes(h.shape) {
         PackSize::Refused(_) => 0,
         PackSize::Bytes(size) => {
             if size > LIMIT {

@@ -31,10 +31,10 @@ use Rattle.pack.specs.declared.Header.{Header}
 use Rattle.pack.specs.declared.Section.{Section}
 use Rattle.pack.specs.Packs.{airSize, packSize, padded, dataString}
 use Rattle.pack.specs.Reading.{jobOf, fileOf}
-use Rattle.pack.specs.Writing.{DataOutcome}
 use Rattle.pack.proofs.Sound.{JobSound}
 use Rattle.pack.proofs.Written.{dataString-length}
-use Rattle.pack.proofs.Laying.{part-length}
+use Rattle.pack_writer.specs.Writing.{DataOutcome}
+use Rattle.pack_writer.proofs.Laying.{part-length}
 use Rattle.writer.specs.Write.{writeChecked, Written, WriteOutcome, write-refused, write-done}
 
 -- ---- the encoded file

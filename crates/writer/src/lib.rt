@@ -4,8 +4,8 @@ use answer::Fault;
 use answer::Refusal;
 use pack::Header;
 use pack::JobRead;
-use pack::PackSize;
 use pack::Section;
+use pack_writer::PackSize;
 ghost use mathlib.Core.Path.{_≡_};
 ghost use lib.Dec.{eqb};
 ghost use lib.ListN.{length, take};
@@ -30,7 +30,7 @@ pub fn write_pack(job: &[u8], cube: &mut [u8], output: &mut [u8]) -> Answer
             lay_file(job, output, h, file);
             let capacity = h.sizes.capacity;
             cube::encode(&output[..capacity], cube, h.shape);
-            pack::write_air(cube, output, h.shape);
+            pack_writer::write_air(cube, output, h.shape);
             Answer::Done
         }
     }
@@ -41,7 +41,7 @@ fn slices_fit(h: Header, bytes: usize, output: usize) -> bool
     requires { ⌜ Valid (h .shape) ⌝ }
     ensures { λ r. ⌜ r ≡ both (eqb bytes (h .sizes .bytes)) (eqb output (packSize (h .shape))) ⌝ }
 {
-    let asked = pack::pack_bytes(h.shape);
+    let asked = pack_writer::pack_bytes(h.shape);
     let PackSize::Bytes(size) = asked else {
         return false;
     };
@@ -56,5 +56,5 @@ fn lay_file(job: &[u8], output: &mut [u8], h: Header, file: Section)
 {
     let sizes = h.sizes;
     let capacity = sizes.capacity;
-    pack::write_data(job, file, &mut output[..capacity]);
+    pack_writer::write_data(job, file, &mut output[..capacity]);
 }

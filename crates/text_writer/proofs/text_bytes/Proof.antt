@@ -2,8 +2,8 @@
 use borrow.Author.Needs.{needs}
 use Rattle.answer.specs.Values.{andThen, checked}
 use Rattle.answer.proofs.Values.{then-refused}
-use Rattle.pack.specs.Writing.{sizeValue}
 use Rattle.pack.proofs.Sound.{air-told, air-refused}
+use Rattle.pack_writer.specs.Writing.{sizeValue}
 use Rattle.text.specs.Text.{textSizeChecked}
 use Rattle.text_writer.proofs.text_bytes.Statement.{statement}
 use Rattle.text_writer.proofs.text_bytes.Tie as tie

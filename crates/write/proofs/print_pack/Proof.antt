@@ -8,7 +8,7 @@ use borrow.Author.Needs.{needs}
 use Rattle.shape.specs.Shapes.{Valid}
 use Rattle.pack.specs.Packs.{packSize}
 use Rattle.pack.proofs.Sound.{job-sound}
-use Rattle.pack.proofs.Outcomes.{size-given, size-refused}
+use Rattle.pack_writer.proofs.Outcomes.{size-given, size-refused}
 use Rattle.write.proofs.Printed.{pack-too-big-printed, cube-fits, pack-printed}
 use Rattle.write.proofs.print_pack.Statement.{statement}
 use Rattle.write.proofs.print_pack.Tie as tie

@@ -1,7 +1,7 @@
 -- `writer::slices_fit` meets its contract. Assumes nothing.
 use borrow.Author.Tests.{eq-eqb, ne-eqb}
 use Rattle.shape.specs.Shapes.{both}
-use Rattle.pack.proofs.Outcomes.{size-given, size-refused}
+use Rattle.pack_writer.proofs.Outcomes.{size-given, size-refused}
 use borrow.Author.Needs.{needs}
 use Rattle.writer.proofs.slices_fit.Statement.{statement}
 use Rattle.writer.proofs.slices_fit.Tie as tie

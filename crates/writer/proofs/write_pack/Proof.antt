@@ -11,7 +11,7 @@ use Rattle.shape.specs.Shapes.{cells}
 use Rattle.pack.specs.Packs.{packSize}
 use Rattle.pack.specs.Reading.{jobOf}
 use Rattle.pack.proofs.Sound.{JobSound, job-told, job-refused, job-sound}
-use Rattle.pack.proofs.Outcomes.{air-wrote}
+use Rattle.pack_writer.proofs.Outcomes.{air-wrote}
 use Rattle.writer.proofs.Outcomes.{capacity-le-packSize, measured-capacity, file-encoded, fits-parts, unread-job, unfit-slices, written-job}
 use borrow.Author.Needs.{needs}
 use Rattle.writer.proofs.write_pack.Statement.{statement}

@@ -1,7 +1,7 @@
 -- `jibrufath::needs::needs_of` meets its contract: a header that was read has a valid shape, its sizes, and room for the file's length.
 use borrow.Author.Needs.{needs}
 use Rattle.shape.specs.Shapes.{sizes}
-use Rattle.pack.proofs.Outcomes.{size-given, size-refused}
+use Rattle.pack_writer.proofs.Outcomes.{size-given, size-refused}
 use Rattle.jibrufath.specs.Needs.{needsOf}
 use Rattle.jibrufath.proofs.needs.needs_of.Statement.{statement}
 use Rattle.jibrufath.proofs.needs.needs_of.Tie as tie

@@ -1,7 +1,7 @@
 -- `jibrufath::texts::size_word` meets its contract.
 use mathlib.Core.Path.{sym, ap}
 use native.Mathlib.Omega.{arith}
-use Rattle.pack.specs.Writing.{sizeValue}
+use Rattle.pack_writer.specs.Writing.{sizeValue}
 use Rattle.jibrufath.specs.Exports.{whole}
 use Rattle.jibrufath.proofs.Words.{packed-result, refused-place, refused-packed}
 use Rattle.jibrufath.proofs.TextBounds.{size-beside}

@@ -2,7 +2,7 @@
 use native.Mathlib.Omega.{arith}
 use Rattle.pack.specs.Packs.{airSize}
 use Rattle.pack.proofs.AirPacks.{airHead-length}
-use Rattle.pack.proofs.Starting.{start-passed}
+use Rattle.pack_writer.proofs.Starting.{start-passed}
 use Rattle.text.proofs.Decoding.{start-told, start-refuted, pack-laid}
 use borrow.Author.Needs.{needs}
 use Rattle.text.proofs.reader.put_air.Statement.{statement}

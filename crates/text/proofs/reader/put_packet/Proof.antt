@@ -1,6 +1,6 @@
 -- `text::reader::put_packet` meets its contract. Assumes nothing.
 use native.Mathlib.Omega.{arith}
-use Rattle.pack.proofs.Laying.{coordinates-told}
+use Rattle.pack_writer.proofs.Laying.{coordinates-told}
 use Rattle.text.proofs.Decoding.{line-below, line-refuted, line-again, packet-put}
 use borrow.Author.Needs.{needs}
 use Rattle.text.proofs.reader.put_packet.Statement.{statement}

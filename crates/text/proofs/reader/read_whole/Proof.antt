@@ -3,7 +3,7 @@ use native.Mathlib.Omega.{arith}
 use mathlib.Core.Path.{_≡_}
 use Rattle.answer.specs.Refusals.{faultNumber, packetFaultNumber}
 use Rattle.answer.specs.Values.{answerValue, refusal}
-use Rattle.pack.proofs.Starting.{air-size-given, air-size-refused, start-short, start-fits}
+use Rattle.pack_writer.proofs.Starting.{air-size-given, air-size-refused, start-short, start-fits}
 use Rattle.text.proofs.Decoding.{read-unfit, read-refusing, read-beyond, read-whole}
 use borrow.Author.Needs.{needs}
 use Rattle.text.proofs.reader.read_whole.Statement.{statement}

@@ -1,7 +1,7 @@
 -- `text::reader::text_pack_bytes` meets its contract. Assumes nothing.
 use native.Mathlib.Omega.{arith}
 use Rattle.answer.specs.Values.{refusal}
-use Rattle.pack.specs.Writing.{sizeValue}
+use Rattle.pack_writer.specs.Writing.{sizeValue}
 use Rattle.text.specs.Text.{size-broken}
 use Rattle.text.proofs.Decoding.{scanned-broken, scanned-whole, packets-few, size-told}
 use borrow.Author.Needs.{needs}

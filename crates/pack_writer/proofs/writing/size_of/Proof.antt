@@ -1,0 +1,21 @@
+-- `pack_writer::writing::size_of` meets its contract. Assumes nothing.
+use native.Mathlib.Omega.{arith}
+use Rattle.pack.proofs.Sound.{packets-le}
+use borrow.Author.Needs.{needs}
+use Rattle.pack_writer.proofs.writing.size_of.Statement.{statement}
+use Rattle.pack_writer.proofs.writing.size_of.Tie as tie
+
+add-packet : tie.Need-add-packet
+add-packet c = search needs
+
+mul-result : tie.Need-mul-result
+mul-result c = omega (arith, packets-le _ _ (c .pre .0) (c .pre .1))
+
+add-result : tie.Need-add-result
+add-result c = omega (arith, packets-le _ _ (c .pre .0) (c .pre .1))
+
+returns : tie.Need-returns
+returns c = search needs
+
+pub size-of-spec : {M : Type 1} → statement M
+size-of-spec = tie.close (tie.spec add-packet mul-result add-result returns)
