@@ -1,5 +1,5 @@
 /* Plays recorded calls on the library, and compares what it answers and leaves with what is recorded.
- * cc -std=c99 -Iinclude targets/play.c target/staticlib/libjibrufath.a -o play && ./play FILE
+ * cc -std=c99 -Iinclude targets/play.c target/archives/x86-64/libjibrufath.a -o play && ./play FILE
  *
  * The file is one of `compare --record`; rust/compare/src/record.rs says its form. From call to call the slices are lent at other alignments,
  * with bytes on both sides of each that must not change. */

@@ -20,7 +20,7 @@ fn main() {
     println!("cargo:rerun-if-env-changed={PREBUILT}");
     let archives = archives();
     let folder = match env::var_os(PREBUILT) {
-        Some(folder) => PathBuf::from(folder),
+        Some(folder) => prebuilt(folder.into()),
         None => built(&archives),
     };
     for (target, name) in archives {
@@ -31,6 +31,16 @@ fn main() {
         println!("cargo:rustc-link-search=native={}", folder.display());
         println!("cargo:rustc-link-lib=static={name}");
     }
+}
+
+/// The folder of prebuilt archives. Cargo runs this script in another folder than the one in which a relative path was meant.
+fn prebuilt(folder: PathBuf) -> PathBuf {
+    assert!(
+        folder.is_absolute(),
+        "{PREBUILT} is {}, which is no absolute path",
+        folder.display()
+    );
+    folder
 }
 
 /// The archives for the processor that the crate is compiled for.

@@ -15,13 +15,15 @@ use crate::{
 };
 
 /// The file of the calls for so many random packs, texts and plans, each kind in its turn, and for half as many cubes, but for those
-/// that are too long; with them calls for sizes, for cells of many widths, and for every byte and every two bytes of the field.
+/// that are too long; with them calls for sizes, for cells of many widths, for a few larger cubes, and for every byte and every two
+/// bytes of the field.
 pub fn recorded(seed: u64, count: u64) -> Vec<u8> {
     let mut random = Random::new(seed);
     let mut calls = Calls::default();
     record_field(&mut calls);
     record_sizes(&mut random, &mut calls);
     record_widths(&mut random, &mut calls);
+    record_long_runs(&mut random, &mut calls);
     for (_, kind) in (0..count).zip(Kind::all().into_iter().cycle()) {
         calls.add(match kind {
             Kind::Pack(kind) => pack_calls(&mut random, kind),
@@ -95,6 +97,21 @@ fn record_widths(random: &mut Random, calls: &mut Calls) {
             record_packs_of(random, twin(shape), calls);
         }
     }
+}
+
+/// Cubes with so many lines side by side, of so many places, that a fast program takes them in pieces of some thousand bytes: along
+/// axis 3, along axes 1 and 3, and along axis 2.
+const LONG_RUNS: [Shape; 3] = [
+    Shape::new(20, 20, 20, 16),
+    Shape::new(69, 69, 25, 3),
+    Shape::new(17, 17, 17, 260),
+];
+
+fn record_long_runs(random: &mut Random, calls: &mut Calls) {
+    for shape in LONG_RUNS {
+        CubeTrial::random(random, shape).record(random, calls);
+    }
+    record_packs_of(random, twin(LONG_RUNS[0]), calls);
 }
 
 /// A file to write, and some of the packets of another one, in a shape that has room for them.
