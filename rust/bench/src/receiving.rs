@@ -69,11 +69,7 @@ fn kinds() -> Result<Vec<Kind>, Refusal> {
         Kind::new(TWICE, twice.clone(), true),
         Kind {
             damaged: one_in_100.collect(),
-            ..Kind::new(
-                "receive: all packets, twice, of the second 1 % damaged",
-                twice,
-                true,
-            )
+            ..Kind::new("receive: twice, 1 % of the second damaged", twice, true)
         },
     ])
 }
