@@ -1,8 +1,11 @@
 //! The C side: the header and the wrapper declare what the library exports, and the programs in C compile, link and run.
 
+mod c;
+
 use std::fs;
-use std::path::{Path, PathBuf};
 use std::process::Command;
+
+use crate::c::repository;
 
 /// What examples/c/receive.c prints.
 const RECEIVED: &str = include_str!("../../../examples/c/receive.out");
@@ -13,28 +16,9 @@ const PLANNED: &str = include_str!("../../../examples/c/plan.out");
 /// The stack that each call may take, as the header says.
 const STACK: &str = include_str!("../../../examples/c/stack.most");
 
-fn repository() -> PathBuf {
-    Path::new(env!("CARGO_MANIFEST_DIR"))
-        .ancestors()
-        .nth(2)
-        .expect("the package is two folders below the repository")
-        .to_path_buf()
-}
-
 /// What a program in examples/c prints.
 fn printed(name: &str) -> String {
-    let repository = repository();
-    let program = Path::new(env!("CARGO_TARGET_TMPDIR")).join(name);
-    let compiled = Command::new("cc")
-        .args(["-std=c99", "-Wall", "-Wextra", "-Werror", "-pedantic", "-I"])
-        .arg(repository.join("include"))
-        .arg(repository.join("examples/c").join(name).with_extension("c"))
-        .arg(repository.join("target/archives/x86-64/libjibrufath.a"))
-        .arg("-o")
-        .arg(&program)
-        .status()
-        .expect("a C compiler is installed");
-    assert!(compiled.success(), "{name} compiles");
+    let program = c::compile(name, &format!("examples/c/{name}.c"), &[]);
     let output = Command::new(&program).output().expect("the program runs");
     assert!(output.status.success(), "{name}: {}", output.status);
     String::from_utf8(output.stdout).expect("text")

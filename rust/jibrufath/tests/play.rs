@@ -1,5 +1,7 @@
 //! The player of recorded calls, targets/play.c: it passes what the independent program does, and tells any other answer, array or byte.
 
+mod c;
+
 use std::fs;
 use std::path::{Path, PathBuf};
 use std::process::Command;
@@ -21,26 +23,9 @@ struct Said {
     words: String,
 }
 
-fn temporary(name: &str) -> PathBuf {
-    Path::new(env!("CARGO_TARGET_TMPDIR")).join(name)
-}
-
 /// Compiles the player with these words for the compiler besides.
 fn player(name: &str, besides: &[&str]) -> PathBuf {
-    let repository = Path::new(env!("CARGO_MANIFEST_DIR")).join("../..");
-    let program = temporary(name);
-    let compiled = Command::new("cc")
-        .args(["-std=c99", "-Wall", "-Wextra", "-Werror", "-pedantic", "-I"])
-        .arg(repository.join("include"))
-        .args(besides)
-        .arg(repository.join("targets/play.c"))
-        .arg(repository.join("target/archives/x86-64/libjibrufath.a"))
-        .arg("-o")
-        .arg(&program)
-        .status()
-        .expect("a C compiler is installed");
-    assert!(compiled.success(), "{name} compiles");
-    program
+    c::compile(name, "targets/play.c", besides)
 }
 
 /// Plays a file.
@@ -143,7 +128,7 @@ static uint64_t beside(const uint8_t *cube, uint64_t cube_len, uint8_t *data, ui
 
 #[test]
 fn bytes_beside_a_slice() {
-    let header = temporary("beside.h");
+    let header = Path::new(env!("CARGO_TARGET_TMPDIR")).join("beside.h");
     fs::write(&header, BESIDE).expect("the header is written");
     let header = header.to_str().expect("a path in characters");
     for (name, place) in [("play_before", "-1"), ("play_behind", "data_len")] {
