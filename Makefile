@@ -21,6 +21,7 @@ ARCHIVES := $(or $(wildcard archives),target/archives)
 HWCAPS := glibc-hwcaps/x86-64-v3
 
 DIST := jibrufath-$(VERSION)
+SOURCE_DATE_EPOCH ?= $(or $(shell git -c safe.directory='*' log -1 --format=%ct 2>/dev/null),0)
 PACKED := CHANGELOG.md LICENSE-APACHE LICENSE-MIT Makefile README.md docs examples include python rust
 
 define PKGCONFIG
@@ -65,13 +66,13 @@ uninstall:
 	rm -rf $(DESTDIR)$(LIBDIR)/jibrufath
 	rm -f $(addprefix $(DESTDIR),$(INCLUDEDIR)/jibrufath.h $(PYTHONDIR)/jibrufath.py $(addprefix $(LIBDIR)/,libjibrufath.a $(SHARED) $(HWCAPS)/$(SHARED) pkgconfig/jibrufath.pc))
 
-# All times are that of the commit, so that the same commit gives the same tarball.
+# All times are that of the commit, so that the same commit gives the same tarball; without a commit they are the first there is.
 dist: whole
 	@for target in $(shell cat targets/list); do test -d $(ARCHIVES)/$$target || { echo "there is no archive for $$target; make builds them all" >&2; exit 1; }; done
 	rm -rf target/dist
 	mkdir -p target/dist/$(DIST)
-	git ls-files $(PACKED) | tar -cf - -T - | tar -xf - -C target/dist/$(DIST)
+	tar -cf - --exclude=target --exclude=__pycache__ $(PACKED) | tar -xf - -C target/dist/$(DIST)
 	cp -R $(ARCHIVES) target/dist/$(DIST)/archives
-	cd target/dist && tar --sort=name --owner=0 --group=0 --numeric-owner --mtime=@$$(git log -1 --format=%ct) -cf - $(DIST) | gzip -n >$(DIST).tar.gz
+	cd target/dist && tar --sort=name --owner=0 --group=0 --numeric-owner --mtime=@$(SOURCE_DATE_EPOCH) -cf - $(DIST) | gzip -n >$(DIST).tar.gz
 	cd target/dist && sha256sum $(DIST).tar.gz >$(DIST).tar.gz.sha256
 	@cat target/dist/$(DIST).tar.gz.sha256
