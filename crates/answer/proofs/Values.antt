@@ -6,7 +6,7 @@ use Prim.Native.Nat.{ℕ}
 use native.Mathlib.Omega.{arith}
 use lib.Dec.{eqb}
 use Rattle.answer.specs.declared.Fault.{Fault}
-use Rattle.answer.specs.declared.Fault.the-variants.{Dimension, PacketSize, CubeSize, SliceLength, FlagValue, Truncated, HeaderCount, TrailingBytes, SectionCount, Capacity, Contradiction, FileLength, Erasure, Uncorrected}
+use Rattle.answer.specs.declared.Fault.the-variants.{Dimension, PacketSize, CubeSize, SliceLength, FlagValue, Truncated, HeaderCount, TrailingBytes, SectionCount, Capacity, Contradiction, FileLength, Erasure, Uncorrected, UsedCells}
 use Rattle.answer.specs.declared.PacketFault.{PacketFault}
 use Rattle.answer.specs.declared.PacketFault.the-variants.{CellIndex}
 use Rattle.answer.specs.declared.Refusal.{Refusal}
@@ -101,7 +101,7 @@ then-number P n (fails m) next p q e = let same : m ≡ n = cc in p (ap fails sa
 
 -- the fault with a number
 unfoldable faultAt : ℕ → Fault
-faultAt n = cond (eqb n 1) Dimension (cond (eqb n 2) PacketSize (cond (eqb n 3) CubeSize (cond (eqb n 4) SliceLength (cond (eqb n 5) FlagValue (cond (eqb n 6) Truncated (cond (eqb n 7) HeaderCount (cond (eqb n 8) TrailingBytes (cond (eqb n 9) SectionCount (cond (eqb n 10) Capacity (cond (eqb n 13) Contradiction (cond (eqb n 14) FileLength (cond (eqb n 15) Erasure (Uncorrected)))))))))))))
+faultAt n = cond (eqb n 1) Dimension (cond (eqb n 2) PacketSize (cond (eqb n 3) CubeSize (cond (eqb n 4) SliceLength (cond (eqb n 5) FlagValue (cond (eqb n 6) Truncated (cond (eqb n 7) HeaderCount (cond (eqb n 8) TrailingBytes (cond (eqb n 9) SectionCount (cond (eqb n 10) Capacity (cond (eqb n 13) Contradiction (cond (eqb n 14) FileLength (cond (eqb n 15) Erasure (cond (eqb n 16) Uncorrected UsedCells)))))))))))))
 
 fault-at : (f : Fault) → faultAt (faultNumber f) ≡ f
 unfolding faultAt faultNumber
@@ -119,6 +119,7 @@ fault-at Contradiction = refl
 fault-at FileLength = refl
 fault-at Erasure = refl
 fault-at Uncorrected = refl
+fault-at UsedCells = refl
 
 -- a number stands for one fault
 pub fault-injective : (f g : Fault) → faultNumber f ≡ faultNumber g → f ≡ g

@@ -1,7 +1,7 @@
 -- The numbers of document 01, "Where each refusal is checked", and those that requests added.
 use Prim.Native.Nat.{ℕ}
 use Rattle.answer.specs.declared.Fault.{Fault}
-use Rattle.answer.specs.declared.Fault.the-variants.{Dimension, PacketSize, CubeSize, SliceLength, FlagValue, Truncated, HeaderCount, TrailingBytes, SectionCount, Capacity, Contradiction, FileLength, Erasure, Uncorrected}
+use Rattle.answer.specs.declared.Fault.the-variants.{Dimension, PacketSize, CubeSize, SliceLength, FlagValue, Truncated, HeaderCount, TrailingBytes, SectionCount, Capacity, Contradiction, FileLength, Erasure, Uncorrected, UsedCells}
 use Rattle.answer.specs.declared.PacketFault.{PacketFault}
 use Rattle.answer.specs.declared.PacketFault.the-variants.{CellIndex}
 
@@ -20,6 +20,8 @@ faultNumber Contradiction = 13
 faultNumber FileLength = 14
 faultNumber Erasure = 15
 faultNumber Uncorrected = 16
+-- request P5: "19, U below 1 or above the number of data cells"; "in the writer also U × W below 4 + file bytes"
+faultNumber UsedCells = 19
 
 unfoldable pub packetFaultNumber : PacketFault → ℕ
 packetFaultNumber CellIndex = 11

@@ -18,6 +18,7 @@ pub enum Fault {
     FileLength,
     Erasure,
     Uncorrected,
+    UsedCells,
 }
 
 // Why a packet is refused.
@@ -60,6 +61,7 @@ pub fn number(f: Refusal) -> u64
             Fault::FileLength => 14,
             Fault::Erasure => 15,
             Fault::Uncorrected => 16,
+            Fault::UsedCells => 19,
         },
         Refusal::Packet(_, _) => 11,
         Refusal::Line(_) => 17,

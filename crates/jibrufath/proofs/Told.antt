@@ -4,7 +4,7 @@ use mathlib.Core.List.{List}
 use Prim.Native.Nat.{ℕ, _/_, _%_, _≤_, _<_}
 use native.Mathlib.Omega.{arith}
 use Rattle.answer.specs.declared.Fault.{Fault}
-use Rattle.answer.specs.declared.Fault.the-variants.{Dimension, PacketSize, CubeSize, SliceLength, FlagValue, Truncated, HeaderCount, TrailingBytes, SectionCount, Capacity, Contradiction, FileLength, Erasure, Uncorrected}
+use Rattle.answer.specs.declared.Fault.the-variants.{Dimension, PacketSize, CubeSize, SliceLength, FlagValue, Truncated, HeaderCount, TrailingBytes, SectionCount, Capacity, Contradiction, FileLength, Erasure, Uncorrected, UsedCells}
 use Rattle.answer.specs.declared.PacketFault.the-variants.{CellIndex}
 use Rattle.answer.specs.declared.Refusal.{Refusal}
 use Rattle.answer.specs.declared.Refusal.the-variants.{Plain, Packet, Line, Entry}
@@ -53,6 +53,7 @@ fault-range Contradiction = (omega arith, omega arith, λ e. omega arith)
 fault-range FileLength = (omega arith, omega arith, λ e. omega arith)
 fault-range Erasure = (omega arith, omega arith, λ e. omega arith)
 fault-range Uncorrected = (omega arith, omega arith, λ e. omega arith)
+fault-range UsedCells = (omega arith, omega arith, λ e. omega arith)
 
 named-range : {n : ℕ} → Named n → (11 ≤ n) × (n ≤ 18)
 named-range packet = (omega arith, omega arith)

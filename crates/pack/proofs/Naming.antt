@@ -2,12 +2,12 @@
 use mathlib.Core.Path.{_≡_, refl, sym, ap, _∙_}
 use mathlib.Core.Bool.{Bool, true, false, cond, false≢true}
 use mathlib.Core.List.{List}
-use Prim.Native.Nat.{ℕ, _+_, _*_, _^_, _≤_, _<_}
+use Prim.Native.Nat.{ℕ, _+_, _-_, _*_, _^_, _≤_, _<_}
 use native.Mathlib.Nat.{mul-le-mul}
 use native.Mathlib.Omega.{arith}
 use lib.Dec.{leb, ltb}
 use lib.ListN.{length, getD}
-use borrow.Author.Tests.{leb-true, le-leb, ltb-true, lt-ltb}
+use borrow.Author.Tests.{leb-true, le-leb, ltb-true, lt-ltb, not-true}
 use Rattle.answer.specs.Values.{passes}
 use Rattle.shape.specs.declared.Shape.{Shape}
 use Rattle.shape.specs.Shapes.{both, cells}
@@ -20,6 +20,7 @@ use Rattle.pack.specs.declared.PacketRead.{PacketRead}
 use Rattle.pack.specs.declared.PacketRead.the-variants.{Names, Absent}
 use Rattle.pack.specs.declared.PartsRead.{PartsRead}
 use Rattle.pack.specs.declared.PartsRead.the-variants.{Parts, Absent as NoParts}
+use Rattle.pack.specs.Packs.{unsent, sends}
 use Rattle.pack.specs.Reading.{packetSize, airOf}
 use Rattle.pack.specs.Packets.{packetAt, packetIn, source, Stands, PartsOutcome, standing, not-standing, InRange, Named, PacketOutcome, named, unnamed}
 use Rattle.pack.specs.Inner.Packets.{withinLimits, namedBy}
@@ -54,6 +55,12 @@ pub cell-fits : (l1 l2 b c : ℕ) → l1 ≤ 255 → l2 ≤ 255 → b < 256 → 
 cell-fits l1 l2 b c g h p q =
     let m : b + l2 * c ≤ 65280 = omega (arith, cell-small l2 b c h p q) in
     mul-le-mul g m
+
+pub data-small : (l2 c : ℕ) → l2 ≤ 255 → c < 256 → (l2 - 2) * c ≤ 65025
+data-small l2 c h q = cell-small (l2 - 2) 0 c (omega arith) (omega arith) q
+
+pub data-fits : (l1 l2 b c : ℕ) → l1 ≤ 255 → l2 ≤ 255 → b < l2 → c < 256 → (l1 - 2) * (b + (l2 - 2) * c) ≤ 16646400
+data-fits l1 l2 b c g h p q = cell-fits (l1 - 2) (l2 - 2) b c (omega arith) (omega arith) (omega arith) q
 
 -- ---- the parts of a packet
 
@@ -94,7 +101,8 @@ module _ (p : List ℕ) (h : Header) (s : Section) (i : ℕ) where
 unfoldable coordinates : List ℕ → Header → Section → ℕ → Bool
 coordinates p h s i =
     both (ltb (getD p (packetAt h s i) 0) (h .shape .l1))
-    (both (ltb (getD p (packetAt h s i + 1) 0) (h .shape .l2)) (ltb (getD p (packetAt h s i + 2) 0) (h .shape .l3)))
+    (both (ltb (getD p (packetAt h s i + 1) 0) (h .shape .l2))
+    (both (ltb (getD p (packetAt h s i + 2) 0) (h .shape .l3)) (sends h (source p h s .place i))))
 
 module _ (p : List ℕ) (h : Header) (s : Section) (i : ℕ) where
   -- what does not stand in the pack names no cell
@@ -107,16 +115,19 @@ module _ (p : List ℕ) (h : Header) (s : Section) (i : ℕ) where
   unfolding coordinates
   tested n true e =
       let (a, bc) = both-parts (ltb (getD p (packetAt h s i) 0) (h .shape .l1)) _ e in
-      let (b, c) = both-parts (ltb (getD p (packetAt h s i + 1) 0) (h .shape .l2)) (ltb (getD p (packetAt h s i + 2) 0) (h .shape .l3)) bc in
-      named (record { stands = n; range = record { first = ltb-true _ _ a; second = ltb-true _ _ b; third = ltb-true _ _ c } })
+      let (b, cd) = both-parts (ltb (getD p (packetAt h s i + 1) 0) (h .shape .l2)) _ bc in
+      let (c, d) = both-parts (ltb (getD p (packetAt h s i + 2) 0) (h .shape .l3)) (sends h (source p h s .place i)) cd in
+      named (record { stands = n; range = record { first = ltb-true _ _ a; second = ltb-true _ _ b; third = ltb-true _ _ c; sent = d } })
   tested n false e =
       unnamed (λ (m : Named p h s i).
       let r = m .range in
-      false≢true (sym e ∙ both-true _ _ (lt-ltb _ _ (r .first)) (both-true _ _ (lt-ltb _ _ (r .second)) (lt-ltb _ _ (r .third)))))
+      false≢true
+      (sym e
+      ∙ both-true _ _ (lt-ltb _ _ (r .first)) (both-true _ _ (lt-ltb _ _ (r .second)) (both-true _ _ (lt-ltb _ _ (r .third)) (r .sent)))))
 
   -- the parts of a packet name its cell, where they pass check 11
   pub parts-named : (a b c at : ℕ) (q : PartsRead) (r : PacketRead) → PartsOutcome p h s i q → q ≡ Parts a b c at
-      → r ≡ namedBy (h .shape) a b c at → PacketOutcome p h s i r
+      → r ≡ namedBy h a b c at → PacketOutcome p h s i r
   unfolding namedBy packetIn source coordinates
   parts-named a b c at q r (standing n) e f =
       let first : a ≡ getD p (packetAt h s i) 0 = cc in
@@ -144,7 +155,7 @@ pub packet-absent : (p : List ℕ) (h : Header) (s : Section) (i : ℕ) (r : Pac
 packet-absent p h s i r (named m) e = let z : _≡_ {A = ℕ} 0 1 = cc in absurd (omega arith)
 packet-absent p h s i r (unnamed never) e = never
 
--- all packets of a pack that was read stand in it: they name a cell where a, b and c are below their lengths
+-- all packets of a pack that was read stand in it: they name a cell where they pass check 11
 pub air-named : (p : List ℕ) (h : Header) (s : Section) (i : ℕ) → airOf p ≡ passes (h, s) → ((k : ℕ) → getD p k 0 < 256) → i < s .count
     → InRange p h s i → Named p h s i
 unfolding packetAt
@@ -180,3 +191,8 @@ packet-told p h s i n from r (named m) e =
     let begins : packetAt h s i + 3 ≡ from = cc in
     record { cell = cc; byte = λ w. ap (λ (k : ℕ). getD p (k + w) 0) (sym begins); inside = omega (arith, m .stands .inside) }
 packet-told p h s i n from r (unnamed never) e = let z : _≡_ {A = ℕ} 0 1 = cc in absurd (omega arith)
+
+-- the cell that it names is sent
+pub place-sent : (p : List ℕ) (h : Header) (s : Section) (i : ℕ) → InRange p h s i → unsent h (source p h s .place i) ≡ false
+unfolding sends
+place-sent p h s i r = not-true (unsent h (source p h s .place i)) (r .sent)

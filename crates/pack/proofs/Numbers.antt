@@ -12,7 +12,7 @@ use Rattle.shape.proofs.Valid.{shape-number}
 use Rattle.cursor.specs.declared.Cursor.{Cursor}
 use Rattle.pack.specs.declared.Header.{Header}
 use Rattle.cursor.specs.Steps.{count, bytes}
-use Rattle.pack.specs.Reading.{end, headed, headerOf, jobBehind, jobOf, airBehind, airOf}
+use Rattle.pack.specs.Reading.{end, headed, headerOf, jobBehind, jobOf, airBehind, airOf, plainAirOf}
 
 -- ---- the checks of a shape
 
@@ -46,7 +46,8 @@ module _ {A : Type 0} (P : ℕ → Type 0) (n : ℕ) (p : List ℕ) (c : Cursor)
 
 -- ---- the readers
 
-module _ (P : ℕ → Type 0) (n : ℕ) (six : P 6) (seven : P 7) (one : P 1) (two : P 2) (three : P 3) (ten : P 10) (p : List ℕ) where
+module _ (P : ℕ → Type 0) (n : ℕ) (six : P 6) (seven : P 7) (one : P 1) (two : P 2) (three : P 3) (ten : P 10)
+    (nineteen : P 19) (p : List ℕ) where
   pub header-fails : headerOf p ≡ fails n → P n
   unfolding headerOf headed
   header-fails =
@@ -54,7 +55,8 @@ module _ (P : ℕ → Type 0) (n : ℕ) (six : P 6) (seven : P 7) (one : P 1) (t
       (λ k body.
       check-number P n _ 7 _ seven
       (bytes-fails P n p _ six _ _
-      (λ at next. then-number P n _ _ (shape-fails P n one two three _) (λ z. check-number P n _ 10 _ ten (passes-number P n _)))))
+      (λ at next. then-number P n _ _ (shape-fails P n one two three _) (λ z.
+      check-number P n _ 10 _ ten (check-number P n _ 19 _ nineteen (passes-number P n _))))))
 
   module _ (nine : P 9) (eight : P 8) where
     job-behind-fails : (h : Header) (c : Cursor) → jobBehind p h c ≡ fails n → P n
@@ -63,10 +65,11 @@ module _ (P : ℕ → Type 0) (n : ℕ) (six : P 6) (seven : P 7) (one : P 1) (t
         count-fails P n p _ six _
         (λ k file.
         check-number P n _ 10 _ ten
+        (check-number P n _ 19 _ nineteen
         (bytes-fails P n p _ six _ _
         (λ at third.
         count-fails P n p _ six _
-        (λ packets rest. check-number P n _ 9 _ nine (end-fails P n p _ eight _ (passes-number P n _))))))
+        (λ packets rest. check-number P n _ 9 _ nine (end-fails P n p _ eight _ (passes-number P n _)))))))
 
     pub job-fails : jobOf p ≡ fails n → P n
     unfolding jobOf
@@ -86,3 +89,7 @@ module _ (P : ℕ → Type 0) (n : ℕ) (six : P 6) (seven : P 7) (one : P 1) (t
     pub air-fails : airOf p ≡ fails n → P n
     unfolding airOf
     air-fails = then-number P n _ _ header-fails (λ r. air-behind-fails (r .0) (r .1))
+
+    pub plain-air-fails : plainAirOf p ≡ fails n → P n
+    unfolding plainAirOf
+    plain-air-fails = count-fails P n p _ six _ (λ k body. check-number P n _ 7 _ seven air-fails)

@@ -1,28 +1,35 @@
 -- Packs that were written: where the bytes of each packet stand, and that a reader finds again what a pack was made of. Reading goes as the
 -- pack is laid out: a count, then so many bytes, each behind what was written before it.
 use mathlib.Core.Path.{_≡_, refl, ap, sym, _∙_}
+use mathlib.Core.Bool.{true, cond}
+use mathlib.Core.Logic.{⊎-elim}
 use mathlib.Core.List.{List, [], _∷_, _++_, map, append-assoc, append-nil}
 use Prim.Native.Nat.{ℕ, zero, suc, _+_, _-_, _*_, _/_, _%_, _^_, _≤_, _<_}
 use native.Mathlib.Nat.{add-zero, suc-mul, zero-mul, sub-le, mul-le-mul, mul-le-mul-left, mul-comm, mod-eq-of-lt, div-add-mod, div-div-eq-div-mul, mod-add-div}
 use native.Mathlib.Numerals.{add-one}
 use native.Mathlib.Omega.{arith}
+use lib.Dec.{eqb}
 use lib.ListN.{length, getD, take, drop, replicate, length-append, length-drop, length-replicate, length-map, List·getD-append, List·getD-map}
 use lib.Seq.{length-take-le, getD-append-add, take-append-seam, drop-append-seam}
 use borrow.Author.Tests.{le-leb, eq-eqb}
 use borrow.Table.Elements.{map-app}
 use Rattle.answer.specs.Values.{Checked, passes, check, andThen}
 use Rattle.shape.specs.declared.Shape.{Shape}
-use Rattle.shape.specs.Shapes.{Valid, cells, capacity, sizes}
-use Rattle.shape.proofs.Valid.{valid-passes}
+use Rattle.shape.specs.declared.Sizes.{Sizes}
+use Rattle.shape.specs.Shapes.{Valid, cells, capacity, dataCells, sizes}
+use Rattle.shape.proofs.Valid.{valid-passes, within-true}
+use Rattle.stopping.specs.Stopping.{number}
 use Rattle.span.proofs.Stretches.{stretch-end}
 use Rattle.cursor.specs.declared.Cursor.{Cursor}
 use Rattle.pack.specs.declared.Section.{Section}
 use Rattle.pack.specs.declared.Header.{Header}
 use Rattle.cursor.specs.Steps.{word, wordBytes}
-use Rattle.pack.specs.Packs.{shapeBytes, Packet, packetBytes, packets, jobPack, airPack, airHead, packetOf, upFrom, firstPackets, everyPacket, airSize, packSize, padded, dataString}
+use Rattle.pack.specs.Packs.{shapeBytes, sectionOne, head, Packet, packetBytes, packets, jobPack, airPack, airHead, packetOf, upFrom, sends, sentBelow, sentPackets, airSize, packSize, padded, dataString}
 use Rattle.cursor.specs.Steps.{count, bytes}
-use Rattle.pack.specs.Reading.{end, shapeAt, headerFor, headed, headerOf, jobBehind, jobOf, packetSize, airBehind, airOf, fileOf}
+use Rattle.pack.specs.Reading.{end, shapeAt, givenAt, usedBy, headerWith, headed, isCount, headerOf, jobBehind, jobOf, packetSize, airBehind, airOf, fileOf}
 use Rattle.pack.specs.Packets.{packetAt, packetNo, source, sourceOf}
+use Rattle.pack.proofs.Sound.{HeaderSound, cells-le, data-cells-le}
+use Rattle.pack.proofs.Sent.{SentAt, sentBelow-length, sentBelow-at}
 
 -- ---- words
 
@@ -53,10 +60,6 @@ shapeAt-shapeBytes p q sh =
     let at : (k : ℕ) → getD (p ++ (shapeBytes sh ++ q)) (length p + k) 0 ≡ getD (shapeBytes sh ++ q) k 0
     = λ (k : ℕ). getD-append-add p (shapeBytes sh ++ q) k 0 in
     rw (sym (ap (λ (k : ℕ). getD (p ++ (shapeBytes sh ++ q)) k 0) (add-zero (length p))) ∙ at 0, at 1, at 2, at 3, at 4, mod-add-div (sh .w) 256)
-
-shapeBytes-length : (sh : Shape) → 5 ≡ length (shapeBytes sh)
-unfolding shapeBytes
-shapeBytes-length sh = refl
 
 -- ---- the steps of reading, over what was written: `before` ends where the cursor stands
 
@@ -93,23 +96,62 @@ end-written p before done e = rw (e, eq-eqb (length before) (length before) refl
 
 -- ---- section 1
 
--- the bytes of section 1
-unfoldable pub head : Shape → List ℕ
-head sh = wordBytes 5 ++ shapeBytes sh
+-- its bytes after the count
+unfoldable body : Header → List ℕ
+body h = shapeBytes (h .shape) ++ cond (eqb (h .count) 9) (wordBytes (h .used)) []
 
-header-written : (sh : Shape) (rest : List ℕ) → Valid sh → 4 ≤ capacity sh
-    → headerOf (wordBytes 5 ++ (shapeBytes sh ++ rest)) ≡ passes (headerFor sh, behind (head sh))
-unfolding headerOf headerFor headed head behind check andThen sizes
-header-written sh rest v room =
-    let p = wordBytes 5 ++ (shapeBytes sh ++ rest) in
-    let five : 5 ≡ length (shapeBytes sh) = shapeBytes-length sh in
+body-length : (h : Header) → HeaderSound h → h .count ≡ length (body h)
+unfolding body shapeBytes wordBytes
+body-length h sound = ⊎-elim (λ e. rw e) (λ e. rw e) (sound .counted)
+
+pub head-length : (h : Header) → HeaderSound h → length (head h) ≡ 4 + h .count
+unfolding head sectionOne wordBytes body
+head-length h sound = omega (arith, body-length h sound)
+
+used-small : (h : Header) → HeaderSound h → h .used < 2 ^ 32
+used-small h sound = omega (arith, sound .most, data-cells-le (h .shape), cells-le (h .shape) (sound .valid))
+
+-- U stands behind the shape
+given-written : (h : Header) (rest : List ℕ) → HeaderSound h
+    → usedBy (h .shape) (h .count) (givenAt (head h ++ rest) (length (wordBytes (h .count))) (h .count)) ≡ h .used
+unfolding head sectionOne givenAt usedBy shapeBytes wordBytes
+given-written h rest sound =
+    ⊎-elim (λ e. rw e (sym (sound .plain e)))
+    (λ e.
+    let sh = h .shape in
+    rw e (word-wordBytes (wordBytes 9 ++ shapeBytes sh) rest (h .used) (used-small h sound)))
+    (sound .counted)
+
+header-back : (h : Header) (u : ℕ) → HeaderSound h → usedBy (h .shape) (h .count) u ≡ h .used → headerWith (h .shape) (h .count) u ≡ h
+unfolding headerWith
+header-back h u sound e = rw (e, ← sound .measured)
+
+header-written : (h : Header) (rest : List ℕ) → HeaderSound h → headerOf (head h ++ rest) ≡ passes (h, behind (head h))
+unfolding headerOf headed head sectionOne behind check andThen sizes body isCount
+header-written h rest sound =
+    let p = head h ++ rest in
+    let n = h .count in
+    let u = givenAt p (length (wordBytes n)) n in
+    let given : usedBy (h .shape) n u ≡ h .used = given-written h rest sound in
+    let counted : isCount n ≡ true = ⊎-elim (λ e. rw e) (λ e. rw e) (sound .counted) in
+    let small : n < 2 ^ 32 = ⊎-elim (λ e. omega arith) (λ e. omega arith) (sound .counted) in
     rw (
-      count-written p [] (shapeBytes sh ++ rest) 5 _ refl (omega arith),
-      bytes-written p (wordBytes 5) rest (shapeBytes sh) 5 _ refl five,
-      shapeAt-shapeBytes (wordBytes 5) rest sh,
-      valid-passes sh v,
-      le-leb 4 (capacity sh) room,
+      count-written p [] (body h ++ rest) n _ (append-assoc (wordBytes n) (body h) rest) small,
+      counted,
+      bytes-written p (wordBytes n) rest (body h) n _ (append-assoc (wordBytes n) (body h) rest) (body-length h sound),
+      shape-there,
+      valid-passes (h .shape) (sound .valid),
+      le-leb 4 (capacity (h .shape)) (sound .room),
+      given,
+      within-true 1 (dataCells (h .shape)) (h .used) (sound .some) (sound .most),
+      header-back h u sound given,
     )
+  where
+    shape-there : shapeAt (head h ++ rest) (length (wordBytes (h .count))) ≡ h .shape
+    shape-there =
+        ap (λ (q : List ℕ). shapeAt q (length (wordBytes (h .count))))
+        (append-assoc (wordBytes (h .count)) (body h) rest ∙ ap (λ (q : List ℕ). wordBytes (h .count) ++ q) (append-assoc (shapeBytes (h .shape)) _ rest))
+        ∙ shapeAt-shapeBytes (wordBytes (h .count)) _ (h .shape)
 
 -- ---- packets
 
@@ -188,40 +230,39 @@ pub carries-place : (p : List ℕ) (h : Header) (s : Section) (ps : List Packet)
 unfolding source sourceOf
 carries-place p h s ps c i l = rw (c .first i l, c .second i l, c .third i l)
 
-module _ (sh : Shape) (ps : List Packet) (v : Valid sh) (room : 4 ≤ capacity sh) (all : Sized (sh .w) ps) (few : length ps < 2 ^ 32) where
+module _ (h : Header) (ps : List Packet) (sound : HeaderSound h) (all : Sized (h .shape .w) ps) (few : length ps < 2 ^ 32) where
   -- the bytes before the packets
   start : List ℕ
-  start = (head sh ++ wordBytes 0) ++ wordBytes (length ps)
+  start = (head h ++ wordBytes 0) ++ wordBytes (length ps)
 
-  laid : start ++ packets ps ≡ airPack sh ps
-  unfolding airPack head start
+  laid : start ++ packets ps ≡ airPack h ps
+  unfolding airPack start
   laid = simp append-assoc
 
-  header-laid : headerOf (airPack sh ps) ≡ passes (headerFor sh, behind (head sh))
+  header-laid : headerOf (airPack h ps) ≡ passes (h, behind (head h))
   unfolding airPack
-  header-laid = header-written sh _ v room
+  header-laid = header-written h _ sound
 
-  air-behind-written : airBehind (airPack sh ps) (headerFor sh) (behind (head sh))
-      ≡ passes (headerFor sh, record { at = length start; count = length ps })
-  unfolding airBehind airPack head start check packetSize headerFor
+  air-behind-written : airBehind (airPack h ps) h (behind (head h)) ≡ passes (h, record { at = length start; count = length ps })
+  unfolding airBehind airPack start check packetSize
   air-behind-written =
-      let p = wordBytes 5 ++ (shapeBytes sh ++ (wordBytes 0 ++ (wordBytes (length ps) ++ packets ps))) in
+      let p = head h ++ (wordBytes 0 ++ (wordBytes (length ps) ++ packets ps)) in
       rw (
-        count-written p (head sh) (wordBytes (length ps) ++ packets ps) 0 _ (simp append-assoc) (omega arith),
-        count-written p (head sh ++ wordBytes 0) (packets ps) (length ps) _ (simp append-assoc) few,
-        bytes-written p start [] (packets ps) (length ps * (3 + sh .w)) _ (simp (append-assoc, append-nil))
-            (sym (packets-length (sh .w) ps all)),
+        count-written p (head h) (wordBytes (length ps) ++ packets ps) 0 _ refl (omega arith),
+        count-written p (head h ++ wordBytes 0) (packets ps) (length ps) _ (simp append-assoc) few,
+        bytes-written p start [] (packets ps) (length ps * (3 + h .shape .w)) _ (simp (append-assoc, append-nil))
+            (sym (packets-length (h .shape .w) ps all)),
         end-written p (start ++ packets ps) _ (simp append-assoc),
       )
 
   -- an air pack is read as the section that carries its packets
-  pub air-read : (s : Section) × (airOf (airPack sh ps) ≡ passes (headerFor sh, s)) × Carries (airPack sh ps) (headerFor sh) s ps
-  unfolding airOf andThen headerFor
+  pub air-read : (s : Section) × (airOf (airPack h ps) ≡ passes (h, s)) × Carries (airPack h ps) h s ps
+  unfolding airOf andThen
   air-read =
-      let whole : start ++ packets ps ≡ airPack sh ps = laid in (
+      let whole : start ++ packets ps ≡ airPack h ps = laid in (
         record { at = length start; count = length ps },
         rw header-laid air-behind-written,
-        rw whole at (carries start (headerFor sh) ps all),
+        rw whole at (carries start h ps all),
       )
 
 -- ---- a job pack
@@ -237,48 +278,54 @@ capacity-le sh v =
 file-laid : (before file rest : List ℕ) → take (length file) (drop (length before) (before ++ (file ++ rest))) ≡ file
 file-laid before file rest = rw (drop-append-seam before (file ++ rest)) (take-append-seam file rest)
 
-module _ (sh : Shape) (file : List ℕ) (v : Valid sh) (fits : 4 + length file ≤ capacity sh) where
+module _ (h : Header) (file : List ℕ) (sound : HeaderSound h) (fits : 4 + length file ≤ capacity (h .shape))
+    (used : 4 + length file ≤ h .used * h .shape .w) where
   -- a file that fits a cube has a count
   few : length file < 2 ^ 32
-  few = omega (arith, capacity-le sh v)
+  few = omega (arith, capacity-le (h .shape) (sound .valid))
 
-  header-laid-job : headerOf (jobPack sh file) ≡ passes (headerFor sh, behind (head sh))
+  header-laid-job : headerOf (jobPack h file) ≡ passes (h, behind (head h))
   unfolding jobPack
-  header-laid-job = header-written sh _ v (omega arith)
+  header-laid-job = header-written h _ sound
 
-  job-behind-written : jobBehind (jobPack sh file) (headerFor sh) (behind (head sh))
-      ≡ passes (headerFor sh, record { at = length (head sh ++ wordBytes (length file)); count = length file })
-  unfolding jobBehind jobPack head check headerFor sizes
+  capacity-held : h .sizes .capacity ≡ capacity (h .shape)
+  unfolding sizes
+  capacity-held = ap (λ (z : Sizes). z .capacity) (sound .measured)
+
+  job-behind-written : jobBehind (jobPack h file) h (behind (head h))
+      ≡ passes (h, record { at = length (head h ++ wordBytes (length file)); count = length file })
+  unfolding jobBehind jobPack check
   job-behind-written =
-      let p = wordBytes 5 ++ (shapeBytes sh ++ (wordBytes (length file) ++ (file ++ wordBytes 0))) in
-      let before = head sh ++ wordBytes (length file) in
+      let p = head h ++ (wordBytes (length file) ++ (file ++ wordBytes 0)) in
+      let before = head h ++ wordBytes (length file) in
       rw (
-        count-written p (head sh) (file ++ wordBytes 0) (length file) _ (simp append-assoc) few,
-        le-leb (4 + length file) (capacity sh) fits,
+        count-written p (head h) (file ++ wordBytes 0) (length file) _ refl few,
+        le-leb (4 + length file) (h .sizes .capacity) (rw capacity-held fits),
+        le-leb (4 + length file) (h .used * h .shape .w) used,
         bytes-written p before (wordBytes 0) file (length file) _ (simp append-assoc) refl,
         count-written p (before ++ file) [] 0 _ (simp (append-assoc, append-nil)) (omega arith),
         end-written p ((before ++ file) ++ wordBytes 0) _ (simp append-assoc),
       )
 
-  job-laid : jobPack sh file ≡ (head sh ++ wordBytes (length file)) ++ (file ++ wordBytes 0)
-  unfolding jobPack head
+  job-laid : jobPack h file ≡ (head h ++ wordBytes (length file)) ++ (file ++ wordBytes 0)
+  unfolding jobPack
   job-laid = simp append-assoc
 
-  file-read : take (length file) (drop (length (head sh ++ wordBytes (length file))) (jobPack sh file)) ≡ file
+  file-read : take (length file) (drop (length (head h ++ wordBytes (length file))) (jobPack h file)) ≡ file
   file-read =
-      let whole : jobPack sh file ≡ (head sh ++ wordBytes (length file)) ++ (file ++ wordBytes 0) = job-laid in
-      rw whole (file-laid (head sh ++ wordBytes (length file)) file (wordBytes 0))
+      let whole : jobPack h file ≡ (head h ++ wordBytes (length file)) ++ (file ++ wordBytes 0) = job-laid in
+      rw whole (file-laid (head h ++ wordBytes (length file)) file (wordBytes 0))
 
   -- a job pack is read as a job with its file
-  pub job-read : (s : Section) × (jobOf (jobPack sh file) ≡ passes (headerFor sh, s)) × (fileOf (jobPack sh file) s ≡ file)
+  pub job-read : (s : Section) × (jobOf (jobPack h file) ≡ passes (h, s)) × (fileOf (jobPack h file) s ≡ file)
   unfolding jobOf andThen fileOf
   job-read = (
-    record { at = length (head sh ++ wordBytes (length file)); count = length file },
+    record { at = length (head h ++ wordBytes (length file)); count = length file },
     rw header-laid-job job-behind-written,
     file-read,
   )
 
--- ---- every cell in cell order
+-- ---- the packets of cells
 
 pub getD-inside : {A : Type 0} (l : List A) (i : ℕ) (d e : A) → i < length l → getD l i d ≡ getD l i e
 getD-inside [] i d e h = absurd (omega arith)
@@ -312,64 +359,56 @@ packets-append (k ∷ ks) js = rw (packets-append ks js) (sym (append-assoc (pac
 pub cell-bytes-le : (sh : Shape) (xs : List ℕ) (n : ℕ) → length xs ≡ sh .w * cells sh → n < cells sh → n * sh .w + sh .w ≤ length xs
 cell-bytes-le sh xs n size h = omega (arith, stretch-end n (cells sh) (sh .w) h, mul-comm (cells sh) (sh .w))
 
-module _ (sh : Shape) (xs : List ℕ) where
-  pub firstPackets-length : (n : ℕ) → length (firstPackets sh xs n) ≡ n
-  unfolding firstPackets
-  firstPackets-length n = length-map (upFrom 0 n) (packetOf sh xs) ∙ upFrom-length 0 n
+pub packetOf-length : (sh : Shape) (xs : List ℕ) → length xs ≡ sh .w * cells sh → (n : ℕ) → n < cells sh
+    → length (packetOf sh xs n .bytes) ≡ sh .w
+unfolding packetOf
+packetOf-length sh xs size n h =
+    let inside = cell-bytes-le sh xs n size h in
+    length-take-le (sh .w) (drop (n * sh .w) xs) (omega (arith, length-drop (n * sh .w) xs))
 
-  pub firstPackets-at : (n i : ℕ) → i < n → packetNo (firstPackets sh xs n) i ≡ packetOf sh xs i
-  unfolding firstPackets packetNo
-  firstPackets-at n i h =
-      let size : i < length (map (packetOf sh xs) (upFrom 0 n)) = omega (arith, firstPackets-length n) in
-      getD-inside (map (packetOf sh xs) (upFrom 0 n)) i _ (packetOf sh xs 0) size
-      ∙ List·getD-map (packetOf sh xs) (upFrom 0 n) i 0 ∙ ap (packetOf sh xs) (upFrom-at 0 n i h ∙ omega arith)
+-- "every cell in cell order", of those that are sent
+module _ (h : Header) (xs : List ℕ) where
+  pub sentPackets-length : length (sentPackets h xs) ≡ number (sends h) (cells (h .shape))
+  unfolding sentPackets
+  sentPackets-length = length-map (sentBelow h (cells (h .shape))) (packetOf (h .shape) xs) ∙ sentBelow-length h (cells (h .shape))
 
-  -- one packet more
-  pub firstPackets-more : (n : ℕ) → firstPackets sh xs (n + 1) ≡ firstPackets sh xs n ++ (packetOf sh xs n ∷ [])
-  unfolding firstPackets
-  firstPackets-more n =
-      let z : 0 + n ≡ n = omega arith in
-      rw (add-one n, upFrom-more 0 n, map-app (packetOf sh xs) (upFrom 0 n) ((0 + n) ∷ []), z)
+  pub sentPackets-at : (i : ℕ) → i < length (sentPackets h xs)
+      → packetNo (sentPackets h xs) i ≡ packetOf (h .shape) xs (getD (sentBelow h (cells (h .shape))) i 0)
+  unfolding sentPackets packetNo
+  sentPackets-at i l =
+      getD-inside (map (packetOf (h .shape) xs) (sentBelow h (cells (h .shape)))) i _ (packetOf (h .shape) xs 0) l
+      ∙ List·getD-map (packetOf (h .shape) xs) (sentBelow h (cells (h .shape))) i 0
 
-  pub everyPacket-length : length (everyPacket sh xs) ≡ cells sh
-  unfolding everyPacket
-  everyPacket-length = firstPackets-length (cells sh)
+  -- the cell of packet i
+  pub sent-cell : (i : ℕ) → i < length (sentPackets h xs) → SentAt h (cells (h .shape)) (getD (sentBelow h (cells (h .shape))) i 0)
+  unfolding sentPackets
+  sent-cell i l =
+      sentBelow-at h (cells (h .shape)) i (omega (arith, length-map (sentBelow h (cells (h .shape))) (packetOf (h .shape) xs)))
 
-  pub everyPacket-at : (n : ℕ) → n < cells sh → packetNo (everyPacket sh xs) n ≡ packetOf sh xs n
-  unfolding everyPacket
-  everyPacket-at n h = firstPackets-at (cells sh) n h
-
-  module _ (size : length xs ≡ sh .w * cells sh) where
-    pub packetOf-length : (n : ℕ) → n < cells sh → length (packetOf sh xs n .bytes) ≡ sh .w
-    unfolding packetOf
-    packetOf-length n h =
-        let inside = cell-bytes-le sh xs n size h in
-        length-take-le (sh .w) (drop (n * sh .w) xs) (omega (arith, length-drop (n * sh .w) xs))
-
-    pub firstPackets-sized : (n : ℕ) → n ≤ cells sh → Sized (sh .w) (firstPackets sh xs n)
-    firstPackets-sized n few i h =
-        let l : i < n = omega (arith, firstPackets-length n) in
-        rw (firstPackets-at n i l) (packetOf-length i (omega arith))
-
-    pub everyPacket-sized : Sized (sh .w) (everyPacket sh xs)
-    unfolding everyPacket
-    everyPacket-sized = firstPackets-sized (cells sh) (omega arith)
+  pub sentPackets-sized : length xs ≡ h .shape .w * cells (h .shape) → Sized (h .shape .w) (sentPackets h xs)
+  sentPackets-sized size i l = rw (sentPackets-at i l) (packetOf-length (h .shape) xs size _ (sent-cell i l .below))
 
 -- what stands before the packets, and the packets
-pub air-laid : (sh : Shape) (ps : List Packet) → airPack sh ps ≡ airHead sh (length ps) ++ packets ps
+pub air-laid : (h : Header) (ps : List Packet) → airPack h ps ≡ airHead h (length ps) ++ packets ps
 unfolding airPack airHead
-air-laid sh ps = simp append-assoc
+air-laid h ps = simp append-assoc
 
-pub airPack-length : (sh : Shape) (ps : List Packet) → Sized (sh .w) ps → length (airPack sh ps) ≡ 17 + length ps * (3 + sh .w)
-unfolding airPack shapeBytes wordBytes
-airPack-length sh ps all = omega (arith, packets-length (sh .w) ps all)
+pub airHead-length : (h : Header) (n : ℕ) → HeaderSound h → length (airHead h n) ≡ 12 + h .count
+unfolding airHead wordBytes
+airHead-length h n sound = omega (arith, length-append (head h) (wordBytes 0 ++ wordBytes n), head-length h sound)
 
--- the written pack has the size that document 01 gives
-pub pack-size : (sh : Shape) (xs : List ℕ) → length xs ≡ sh .w * cells sh → length (airPack sh (everyPacket sh xs)) ≡ packSize sh
-unfolding packSize airSize
-pack-size sh xs size =
-    airPack-length sh (everyPacket sh xs) (everyPacket-sized sh xs size)
-    ∙ ap (λ (n : ℕ). 17 + n * (3 + sh .w)) (everyPacket-length sh xs)
+pub air-length : (h : Header) (ps : List Packet) → HeaderSound h → Sized (h .shape .w) ps → length (airPack h ps) ≡ airSize h (length ps)
+unfolding airSize
+air-length h ps sound all =
+    ap length (air-laid h ps) ∙ length-append (airHead h (length ps)) (packets ps)
+    ∙ omega (arith, airHead-length h (length ps) sound, packets-length (h .shape .w) ps all)
+
+-- the written pack has the size that request P5 gives
+pub pack-size : (h : Header) (xs : List ℕ) → HeaderSound h → length xs ≡ h .shape .w * cells (h .shape)
+    → length (airPack h (sentPackets h xs)) ≡ packSize h
+unfolding packSize
+pack-size h xs sound size =
+    air-length h (sentPackets h xs) sound (sentPackets-sized h xs size) ∙ ap (airSize h) (sentPackets-length h xs)
 
 -- ---- data strings
 

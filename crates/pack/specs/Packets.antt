@@ -1,4 +1,6 @@
 -- The packets of a pack as a sequence: for each index the cell it names and its bytes (document 01, "Packs").
+use mathlib.Core.Path.{_≡_}
+use mathlib.Core.Bool.{true}
 use mathlib.Core.List.{List, [], map}
 use Prim.Native.Nat.{ℕ, _+_, _*_, _^_, _≤_, _<_}
 use lib.ListN.{length, getD, take, drop}
@@ -10,7 +12,7 @@ use Rattle.pack.specs.declared.PacketRead.{PacketRead}
 use Rattle.pack.specs.declared.PacketRead.the-variants.{Names, Absent}
 use Rattle.pack.specs.declared.PartsRead.{PartsRead}
 use Rattle.pack.specs.declared.PartsRead.the-variants.{Parts, Absent as NoParts}
-use Rattle.pack.specs.Packs.{Packet, upFrom}
+use Rattle.pack.specs.Packs.{Packet, upFrom, sends}
 use Rattle.pack.specs.Reading.{packetSize}
 
 pub record Source : Type 0 where
@@ -73,23 +75,24 @@ pub data PartsOutcome (p : List ℕ) (h : Header) (s : Section) (i : ℕ) : Part
       PartsOutcome p h s i (Parts (packetIn p h s i .a) (packetIn p h s i .b) (packetIn p h s i .c) (packetAt h s i + 3))
   not-standing : (Stands p h s i → ⊥) → PartsOutcome p h s i NoParts
 
--- 11: "a, b or c not below its length" does not hold of packet i
+-- 11: "a, b or c not below its length" does not hold of packet i. Request P5: "A packet for an unsent cell meets 11."
 pub record InRange (p : List ℕ) (h : Header) (s : Section) (i : ℕ) : Type 0 where
   pub first : getD p (packetAt h s i) 0 < h .shape .l1
   pub second : getD p (packetAt h s i + 1) 0 < h .shape .l2
   pub third : getD p (packetAt h s i + 2) 0 < h .shape .l3
+  pub sent : sends h (source p h s .place i) ≡ true
 
--- Packet i stands in the pack and names a cell.
+-- Packet i stands in the pack and names a cell that is sent.
 pub record Named (p : List ℕ) (h : Header) (s : Section) (i : ℕ) : Type 0 where
   pub stands : Stands p h s i
   pub range : InRange p h s i
 
--- What `packet` answers: the cell and where its bytes begin, or that no packet stands there or names a cell.
+-- What `packet` answers: the cell and where its bytes begin, or that no packet stands there or names a cell that is sent.
 pub data PacketOutcome (p : List ℕ) (h : Header) (s : Section) (i : ℕ) : PacketRead → Type 0 where
   named : Named p h s i → PacketOutcome p h s i (Names (source p h s .place i) (packetAt h s i + 3))
   unnamed : (Named p h s i → ⊥) → PacketOutcome p h s i Absent
 
--- What `first_outside` answers: the first packet that names no cell, or the count.
+-- What `first_outside` answers: the first packet that names no cell that is sent, or the count.
 pub record FirstOutside (p : List ℕ) (h : Header) (s : Section) (r : ℕ) : Type 0 where
   pub bound : r ≤ s .count
   pub before : (i : ℕ) → i < r → Named p h s i

@@ -1,10 +1,14 @@
 -- Packs (document 01, "Packs"): the house form as lists of bytes.
+use mathlib.Core.Bool.{Bool, cond, not}
 use mathlib.Core.List.{List, [], _∷_, _++_, map}
 use Prim.Native.Nat.{ℕ, zero, suc, _+_, _-_, _*_, _/_, _%_}
+use lib.Dec.{eqb, leb}
 use lib.ListN.{length, take, drop, replicate}
 use Rattle.cursor.specs.Steps.{wordBytes}
 use Rattle.shape.specs.declared.Shape.{Shape}
-use Rattle.shape.specs.Shapes.{cells, capacity}
+use Rattle.shape.specs.Shapes.{both, cells, capacity, dataCell}
+use Rattle.stopping.specs.Stopping.{number}
+use Rattle.pack.specs.declared.Header.{Header}
 
 -- "Section 1, count 5: L1, L2, L3, then W in two bytes, low first."
 unfoldable pub shapeBytes : Shape → List ℕ
@@ -25,17 +29,38 @@ unfoldable pub packets : List Packet → List ℕ
 packets [] = []
 packets (k ∷ ks) = packetBytes k ++ packets ks
 
--- "three sections in a fixed order, each after its count (four bytes, low first)". A job pack: the shape, a file, no packets.
-unfoldable pub jobPack : Shape → List ℕ → List ℕ
-jobPack sh file = wordBytes 5 ++ (shapeBytes sh ++ (wordBytes (length file) ++ (file ++ wordBytes 0)))
+-- Section 1 after its count. Request P5: "Section 1 may have count 9, the last four bytes being U, low first".
+unfoldable pub sectionOne : Shape → ℕ → ℕ → List ℕ
+sectionOne sh n u = wordBytes n ++ (shapeBytes sh ++ cond (eqb n 9) (wordBytes u) [])
 
--- An air pack: the shape, "section 2 count 0", packets.
-unfoldable pub airPack : Shape → List Packet → List ℕ
-airPack sh ps = wordBytes 5 ++ (shapeBytes sh ++ (wordBytes 0 ++ (wordBytes (length ps) ++ packets ps)))
+unfoldable pub head : Header → List ℕ
+head h = sectionOne (h .shape) (h .count) (h .used)
+
+-- "three sections in a fixed order, each after its count (four bytes, low first)". A job pack: the shape, a file, no packets.
+unfoldable pub jobPack : Header → List ℕ → List ℕ
+jobPack h file = head h ++ (wordBytes (length file) ++ (file ++ wordBytes 0))
+
+-- An air pack: the shape, "section 2 count 0", packets. Request P5: "what it writes keeps section 1".
+unfoldable pub airPack : Header → List Packet → List ℕ
+airPack h ps = head h ++ (wordBytes 0 ++ (wordBytes (length ps) ++ packets ps))
 
 -- what stands before the packets of an air pack with so many
-unfoldable pub airHead : Shape → ℕ → List ℕ
-airHead sh n = wordBytes 5 ++ (shapeBytes sh ++ (wordBytes 0 ++ wordBytes n))
+unfoldable pub airHead : Header → ℕ → List ℕ
+airHead h n = head h ++ (wordBytes 0 ++ wordBytes n)
+
+-- ---- the cells that are sent
+
+-- "data cells from the U-th on, counted from 0, are 00h, known from the start and never sent"
+unfoldable pub unsent : Header → ℕ → Bool
+unsent h n = both (dataCell (h .shape) n) (leb (h .used) (number (dataCell (h .shape)) n))
+
+unfoldable pub sends : Header → ℕ → Bool
+sends h n = not (unsent h n)
+
+-- the cells below n that are sent, in cell order
+unfoldable pub sentBelow : Header → ℕ → List ℕ
+sentBelow h zero = []
+sentBelow h (suc n) = sentBelow h n ++ cond (sends h n) (n ∷ []) []
 
 -- the packet of cell n of a cube
 unfoldable pub packetOf : Shape → List ℕ → ℕ → Packet
@@ -47,20 +72,17 @@ unfoldable pub upFrom : ℕ → ℕ → List ℕ
 upFrom n zero = []
 upFrom n (suc k) = n ∷ upFrom (suc n) k
 
--- the packets of the first n cells; "every cell in cell order"
-unfoldable pub firstPackets : Shape → List ℕ → ℕ → List Packet
-firstPackets sh xs n = map (packetOf sh xs) (upFrom 0 n)
-
-unfoldable pub everyPacket : Shape → List ℕ → List Packet
-everyPacket sh xs = firstPackets sh xs (cells sh)
+-- "every cell in cell order", of those that are sent
+unfoldable pub sentPackets : Header → List ℕ → List Packet
+sentPackets h xs = map (packetOf (h .shape) xs) (sentBelow h (cells (h .shape)))
 
 -- the bytes of an air pack with so many packets
-unfoldable pub airSize : Shape → ℕ → ℕ
-airSize sh n = 17 + n * (3 + sh .w)
+unfoldable pub airSize : Header → ℕ → ℕ
+airSize h n = 12 + h .count + n * (3 + h .shape .w)
 
--- "17 + cells × (3 + W) bytes"
-unfoldable pub packSize : Shape → ℕ
-packSize sh = airSize sh (cells sh)
+-- "its size is now 12 + section 1's count + the bytes of the packets sent"
+unfoldable pub packSize : Header → ℕ
+packSize h = airSize h (number (sends h) (cells (h .shape)))
 
 -- "the file's length in four bytes, low first, the file, then 00h", so many bytes in all
 unfoldable pub padded : ℕ → List ℕ → List ℕ

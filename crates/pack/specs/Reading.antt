@@ -1,14 +1,15 @@
 -- Reading a pack (document 01, "Where each refusal is checked"): "Sections are read one after another, each from the byte where the one
 -- before ended", and the checks run down the table.
+use mathlib.Core.Bool.{Bool, true, cond}
 use mathlib.Core.List.{List}
 use Prim.Native.Nat.{ℕ, _+_, _*_}
 use lib.Dec.{eqb, leb}
 use lib.ListN.{length, getD, take, drop}
 use Rattle.answer.specs.Values.{Value, gives, Checked, passes, check, andThen, refusal}
 use Rattle.shape.specs.declared.Shape.{Shape}
-use Rattle.shape.specs.Shapes.{sizes, shapeChecked}
+use Rattle.shape.specs.Shapes.{within, dataCells, sizes, shapeChecked}
 use Rattle.cursor.specs.declared.Cursor.{Cursor}
-use Rattle.cursor.specs.Steps.{count, bytes}
+use Rattle.cursor.specs.Steps.{word, count, bytes}
 use Rattle.pack.specs.declared.Section.{Section}
 use Rattle.pack.specs.declared.Header.{Header}
 use Rattle.pack.specs.declared.HeaderRead.{HeaderRead}
@@ -34,35 +35,54 @@ shapeAt p at =
       w = getD p (at + 3) 0 + 256 * getD p (at + 4) 0;
     }
 
--- what section 1 of a pack with this shape is read as
-unfoldable pub headerFor : Shape → Header
-headerFor sh = record { shape = sh; sizes = sizes sh }
+-- U, the four bytes behind them where the count is 9
+unfoldable pub givenAt : List ℕ → ℕ → ℕ → ℕ
+givenAt p at n = cond (eqb n 9) (word p (at + 5)) 0
 
--- 1, 2, 3, then "capacity below 4"
-unfoldable pub headed : Shape → Cursor → Checked (Header × Cursor)
-headed sh next =
+-- the data cells in use: U with count 9, else all
+unfoldable pub usedBy : Shape → ℕ → ℕ → ℕ
+usedBy sh n u = cond (eqb n 9) u (dataCells sh)
+
+-- what section 1 with this shape, count and U is read as
+unfoldable pub headerWith : Shape → ℕ → ℕ → Header
+headerWith sh n u = record { shape = sh; sizes = sizes sh; count = n; used = usedBy sh n u }
+
+-- document 01's own section 1, count 5
+unfoldable pub headerFor : Shape → Header
+headerFor sh = headerWith sh 5 0
+
+-- 1, 2, 3, then "capacity below 4", then 19: "U below 1 or above the number of data cells, after the capacity check of 10"
+unfoldable pub headed : Shape → ℕ → ℕ → Cursor → Checked (Header × Cursor)
+headed sh n u next =
     andThen (shapeChecked sh) (λ z.
     check (leb 4 (z .capacity)) 10
-    (passes (record { shape = sh; sizes = z }, next)))
+    (check (within 1 (dataCells sh) (usedBy sh n u)) 19
+    (passes (headerWith sh n u, next))))
+
+-- "7 now means neither 5 nor 9"
+unfoldable pub isCount : ℕ → Bool
+isCount n = cond (eqb n 5) true (eqb n 9)
 
 -- Section 1: "a count is judged (7) before its five bytes are needed (6)".
 unfoldable pub headerOf : List ℕ → Checked (Header × Cursor)
 headerOf p =
     count p (record { at = 0 }) (λ n body.
-    check (eqb n 5) 7
+    check (isCount n) 7
     (bytes p body n (λ at next.
-    headed (shapeAt p at) next)))
+    headed (shapeAt p at) n (givenAt p at n) next)))
 
--- Sections 2 and 3 for the writer: "count above capacity - 4", "at the others 9 and 10 come before 6".
+-- Sections 2 and 3 for the writer: "count above capacity - 4", "at the others 9 and 10 come before 6"; 19: "in the writer also U × W below 4 + file
+-- bytes, after 10 on section 2's count".
 unfoldable pub jobBehind : List ℕ → Header → Cursor → Checked (Header × Section)
 jobBehind p h second =
     count p second (λ n file.
     check (leb (4 + n) (h .sizes .capacity)) 10
+    (check (leb (4 + n) (h .used * h .shape .w)) 19
     (bytes p file n (λ at third.
     count p third (λ packets rest.
     check (eqb packets 0) 9
     (end p rest
-    (passes (h, record { at = at; count = n })))))))
+    (passes (h, record { at = at; count = n }))))))))
 
 -- The whole pack, as the writer reads it: its header, and where the file stands.
 unfoldable pub jobOf : List ℕ → Checked (Header × Section)
@@ -85,6 +105,10 @@ airBehind p h second =
 -- The whole pack, as the receiver reads it: its header, and where the packets stand.
 unfoldable pub airOf : List ℕ → Checked (Header × Section)
 airOf p = andThen (headerOf p) (λ r. airBehind p (r .0) (r .1))
+
+-- The same for the text twin, which "keeps to count 5 and answers 7 otherwise".
+unfoldable pub plainAirOf : List ℕ → Checked (Header × Section)
+plainAirOf p = count p (record { at = 0 }) (λ n body. check (eqb n 5) 7 (airOf p))
 
 -- the file in a job pack: the bytes that section 2 counts
 unfoldable pub fileOf : List ℕ → Section → List ℕ

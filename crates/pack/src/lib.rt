@@ -11,6 +11,7 @@ pub use packets::packet_parts;
 pub use reading::read_air;
 pub use reading::read_header;
 pub use reading::read_job;
+pub use reading::read_plain_air;
 use shape::Shape;
 use shape::Sizes;
 
@@ -20,10 +21,12 @@ pub struct Section {
     pub count: usize,
 }
 
-// What section 1 holds, and the sizes that were measured.
+// What section 1 holds: the shape, with the sizes that were measured; its count, 5 or 9; and the data cells in use, which are all of them with count 5.
 pub struct Header {
     pub shape: Shape,
     pub sizes: Sizes,
+    pub count: usize,
+    pub used: usize,
 }
 
 pub enum HeaderRead {

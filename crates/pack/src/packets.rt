@@ -8,10 +8,12 @@ use shape::Shape;
 ghost use mathlib.Core.Path.{_≡_};
 ghost use mathlib.Core.Bool.{true, false};
 ghost use Prim.Native.Nat.{_+_, _*_, _≤_, _<_};
+ghost use Rattle.shape.specs.Shapes.{cell};
+ghost use Rattle.pack.specs.Packs.{unsent};
 ghost use Rattle.pack.specs.Packets.{PacketOutcome, PartsOutcome, FirstOutside};
 ghost use Rattle.pack.specs.Inner.Packets.{withinLimits, namedBy};
 
-// The first packet of the section that names no cell, or the section's count.
+// The first packet of the section that names no cell that is sent, or the section's count.
 pub fn first_outside(pack: &[u8], h: Header, s: Section) -> usize
     ensures { λ r. ⌜ FirstOutside (now (pack .entry)) h s r ⌝ }
 {
@@ -27,7 +29,7 @@ pub fn first_outside(pack: &[u8], h: Header, s: Section) -> usize
     count
 }
 
-// Packet i of the section: the cell that it names.
+// Packet i of the section: the cell that it names, where that is sent.
 pub fn packet(pack: &[u8], h: Header, s: Section, i: usize) -> PacketRead
     ensures { λ r. ⌜ PacketOutcome (now (pack .entry)) h s i r ⌝ }
 {
@@ -35,7 +37,7 @@ pub fn packet(pack: &[u8], h: Header, s: Section, i: usize) -> PacketRead
     let PartsRead::Parts(a, b, c, at) = parts else {
         return PacketRead::Absent;
     };
-    named(h.shape, wide(a), wide(b), wide(c), at)
+    named(h, wide(a), wide(b), wide(c), at)
 }
 
 // Packet i of the section as it stands there, without check 11. The limits keep all products in a machine word; every header and count that
@@ -73,10 +75,11 @@ fn lies_in(len: usize, at: usize, i: usize, size: usize) -> bool
 }
 
 // The cell that a, b and c name: 11 is asked of them.
-fn named(sh: Shape, a: usize, b: usize, c: usize, at: usize) -> PacketRead
-    requires { ⌜ (sh .l1 ≤ 255) × (sh .l2 ≤ 255) × (b < 256) × (c < 256) ⌝ }
-    ensures { λ r. ⌜ r ≡ namedBy sh a b c at ⌝ }
+fn named(h: Header, a: usize, b: usize, c: usize, at: usize) -> PacketRead
+    requires { ⌜ (h .shape .l1 ≤ 255) × (h .shape .l2 ≤ 255) × (b < 256) × (c < 256) ⌝ }
+    ensures { λ r. ⌜ r ≡ namedBy h a b c at ⌝ }
 {
+    let sh = h.shape;
     if sh.l1 <= a {
         return PacketRead::Absent;
     }
@@ -86,5 +89,26 @@ fn named(sh: Shape, a: usize, b: usize, c: usize, at: usize) -> PacketRead
     if sh.l3 <= c {
         return PacketRead::Absent;
     }
+    if is_unsent(h, a, b, c) {
+        return PacketRead::Absent;
+    }
     PacketRead::Names(a + sh.l1 * (b + sh.l2 * c), at)
+}
+
+// Whether cell (a,b,c) is a data cell beyond those in use.
+fn is_unsent(h: Header, a: usize, b: usize, c: usize) -> bool
+    requires { ⌜ (h .shape .l1 ≤ 255) × (h .shape .l2 ≤ 255) × (a < h .shape .l1) × (b < h .shape .l2) × (c < h .shape .l3) × (c < 256) ⌝ }
+    ensures { λ r. ⌜ r ≡ unsent h (cell (h .shape) a b c) ⌝ }
+{
+    let sh = h.shape;
+    if sh.l1 <= a + 2 {
+        return false;
+    }
+    if sh.l2 <= b + 2 {
+        return false;
+    }
+    if sh.l3 <= c + 2 {
+        return false;
+    }
+    h.used <= a + (sh.l1 - 2) * (b + (sh.l2 - 2) * c)
 }

@@ -15,6 +15,10 @@ use Rattle.shape.specs.declared.LineAnswer.the-variants.{Found, Refused 
 unfoldable pub cells : Shape → ℕ
 cells sh = sh .l1 * sh .l2 * sh .l3
 
+-- how many data cells there are: "A data cell has a < L1-2, b < L2-2 and c < L3-2."
+unfoldable pub dataCells : Shape → ℕ
+dataCells sh = (sh .l1 - 2) * (sh .l2 - 2) * (sh .l3 - 2)
+
 -- "its capacity is W × (L1-2)(L2-2)(L3-2)"
 unfoldable pub capacity : Shape → ℕ
 capacity sh = sh .w * ((sh .l1 - 2) * (sh .l2 - 2) * (sh .l3 - 2))
@@ -59,6 +63,12 @@ measuredValue (Refused f) = refusal f
 -- "Cell (a,b,c) has number a + L1 × (b + L2 × c)"
 unfoldable pub cell : Shape → ℕ → ℕ → ℕ → ℕ
 cell sh a b c = a + sh .l1 * (b + sh .l2 * c)
+
+-- cell n is a data cell
+unfoldable pub dataCell : Shape → ℕ → Bool
+dataCell sh n =
+    both (ltb (n % sh .l1) (sh .l1 - 2))
+    (both (ltb (n / sh .l1 % sh .l2) (sh .l2 - 2)) (ltb (n / (sh .l1 * sh .l2)) (sh .l3 - 2)))
 
 -- "An axis is 1, 2 or 3; a line fixes the other two coordinates." A line of an axis by its first cell, the stride from cell to cell, and its
 -- length.

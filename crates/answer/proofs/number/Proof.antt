@@ -61,6 +61,9 @@ enum-told-16 c = search needs
 enum-told-17 : tie.Need-enum-told-17
 enum-told-17 c = search needs
 
+enum-told-18 : tie.Need-enum-told-18
+enum-told-18 c = search needs
+
 returns : tie.Need-returns
 unfolding numberOf refusal faultNumber
 returns c = rw (c .before .before .before .f .given .1, c .enum-told .given .1)
@@ -118,16 +121,20 @@ unfolding numberOf refusal faultNumber
 returns-14 c = rw (c .before .before .before .f .given .1, c .enum-told14 .given .1)
 
 returns-15 : tie.Need-returns-15
-unfolding numberOf refusal
-returns-15 c = rw (c .enum-told15 .given .1) (sym (packet-fault-number _))
+unfolding numberOf refusal faultNumber
+returns-15 c = rw (c .before .before .before .f .given .1, c .enum-told15 .given .1)
 
 returns-16 : tie.Need-returns-16
 unfolding numberOf refusal
-returns-16 c = rw (c .enum-told16 .given .1)
+returns-16 c = rw (c .enum-told16 .given .1) (sym (packet-fault-number _))
 
 returns-17 : tie.Need-returns-17
 unfolding numberOf refusal
 returns-17 c = rw (c .enum-told17 .given .1)
+
+returns-18 : tie.Need-returns-18
+unfolding numberOf refusal
+returns-18 c = rw (c .enum-told18 .given .1)
 
 pub number-spec : {M : Type 1} → statement M
 number-spec =
@@ -151,6 +158,7 @@ number-spec =
     enum-told-15
     enum-told-16
     enum-told-17
+    enum-told-18
     returns
     returns-2
     returns-3
@@ -167,4 +175,5 @@ number-spec =
     returns-14
     returns-15
     returns-16
-    returns-17)
+    returns-17
+    returns-18)

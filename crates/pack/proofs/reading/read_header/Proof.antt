@@ -1,10 +1,12 @@
--- `pack::reading::read_header` meets its contract: 7 is judged before the five bytes are needed. Assumes nothing.
+-- `pack::reading::read_header` meets its contract: 7 is judged before the bytes of section 1 are needed. Assumes nothing.
+use mathlib.Core.Path.{sym, _∙_}
 use native.Mathlib.Omega.{arith}
-use borrow.Author.Tests.{eq-eqb, ne-eqb}
+use borrow.Author.Tests.{not-true, not-false}
 use Rattle.answer.specs.Refusals.{faultNumber}
 use Rattle.answer.specs.Values.{refusal, check, checked}
 use Rattle.pack.specs.Reading.{headerOf, headerValue}
 use Rattle.cursor.proofs.Steps.{count-read, count-cut, bytes-read, bytes-cut, bytes-known}
+use Rattle.pack.proofs.Sound.{count-least}
 use borrow.Author.Needs.{needs}
 use Rattle.pack.proofs.reading.read_header.Statement.{statement}
 use Rattle.pack.proofs.reading.read_header.Tie as tie
@@ -22,11 +24,16 @@ returns : tie.Need-returns
 unfolding headerOf headerValue refusal faultNumber check checked
 returns c = rw (count-cut _ _ _ (c .before .before .count .ensures) (c .enum-told .given .1))
 
+is-count-requires : tie.Need-is-count-requires
+is-count-requires c κs = search needs
+
 returns-2 : tie.Need-returns-2
 unfolding headerOf headerValue refusal faultNumber check checked
 returns-2 c =
-    let first = c .before .before in
-    rw (count-read _ _ _ (first .before .before .count .ensures) _ _ (first .counted .given .1), ne-eqb _ _ (c .if1 .taken))
+    rw (
+      count-read _ _ _ (c .before .before .before .before .before .count .ensures) _ _ (c .before .before .before .counted .given .1),
+      sym (c .before .is-count .ensures) ∙ not-true _ (c .if1 .taken),
+    )
 
 bytes-requires : tie.Need-bytes-requires
 bytes-requires c κs = search needs
@@ -40,20 +47,21 @@ enum-told-2 c = search needs
 returns-3 : tie.Need-returns-3
 unfolding headerOf headerValue refusal faultNumber check checked
 returns-3 c =
-    let read = c .before .before in
-    let first = read .before .before .before in
     rw (
-      count-read _ _ _ (first .before .before .count .ensures) _ _ (first .counted .given .1),
-      eq-eqb _ _ (read .before .if1 .left),
-      bytes-cut _ _ _ _ (read .bytes .ensures) (c .enum-told2 .given .1),
+      count-read _ _ _ (c .before .before .before .before .before .before .before .before .count .ensures) _ _ (c .before .before .before .before .before .before .counted .given .1),
+      sym (c .before .before .before .before .is-count .ensures) ∙ not-false _ (c .before .before .before .if1 .left),
+      bytes-cut _ _ _ _ (c .before .before .bytes .ensures) (c .enum-told2 .given .1),
     )
 
 shape-at-requires : tie.Need-shape-at-requires
 shape-at-requires c κs =
-    let section = c .before in
-    let read = section .before .before in
-    let (inside, at, _) = bytes-known _ _ _ _ (read .bytes .ensures) _ _ (section .section .given .1) in
-    omega (arith, read .before .if1 .left)
+    let (inside, at, _) = bytes-known _ _ _ _ (c .before .before .before .bytes .ensures) _ _ (c .before .section .given .1) in
+    omega (arith, count-least _ (sym (c .before .before .before .before .before .is-count .ensures) ∙ not-false _ (c .before .before .before .before .if1 .left)))
+
+given-at-requires : tie.Need-given-at-requires
+given-at-requires c κs =
+    let (inside, at, _) = bytes-known _ _ _ _ (c .before .before .before .before .bytes .ensures) _ _ (c .before .before .section .given .1) in
+    omega arith
 
 headed-requires : tie.Need-headed-requires
 headed-requires c κs = search needs
@@ -61,14 +69,12 @@ headed-requires c κs = search needs
 returns-4 : tie.Need-returns-4
 unfolding headerOf check
 returns-4 c =
-    let section = c .before .before .before in
-    let read = section .before .before in
-    let first = read .before .before .before in
     rw (
-      count-read _ _ _ (first .before .before .count .ensures) _ _ (first .counted .given .1),
-      eq-eqb _ _ (read .before .if1 .left),
-      bytes-read _ _ _ _ (read .bytes .ensures) _ _ (section .section .given .1),
-      ← c .before .shape-at .ensures,
+      count-read _ _ _ (c .before .before .before .before .before .before .before .before .before .before .before .before .count .ensures) _ _ (c .before .before .before .before .before .before .before .before .before .before .counted .given .1),
+      sym (c .before .before .before .before .before .before .before .before .is-count .ensures) ∙ not-false _ (c .before .before .before .before .before .before .before .if1 .left),
+      bytes-read _ _ _ _ (c .before .before .before .before .before .before .bytes .ensures) _ _ (c .before .before .before .before .section .given .1),
+      ← c .before .before .shape-at .ensures,
+      ← c .before .given-at .ensures,
     )
     (c .headed .ensures)
 
@@ -80,11 +86,13 @@ read-header-spec =
     enum-known-counted
     enum-told
     returns
+    is-count-requires
     returns-2
     bytes-requires
     enum-known-section
     enum-told-2
     returns-3
     shape-at-requires
+    given-at-requires
     headed-requires
     returns-4)

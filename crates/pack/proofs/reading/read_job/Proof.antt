@@ -2,7 +2,7 @@
 use Rattle.answer.specs.Values.{andThen}
 use Rattle.answer.proofs.Values.{then-refused}
 use Rattle.pack.specs.Reading.{jobOf, jobValue}
-use Rattle.pack.proofs.Sound.{header-told, header-refused}
+use Rattle.pack.proofs.Sound.{header-told, header-refused, header-sound, header-limits}
 use borrow.Author.Needs.{needs}
 use Rattle.pack.proofs.reading.read_job.Statement.{statement}
 use Rattle.pack.proofs.reading.read_job.Tie as tie
@@ -17,7 +17,8 @@ enum-known-h : tie.Need-enum-known-h
 enum-known-h c = search needs
 
 job-behind-requires : tie.Need-job-behind-requires
-job-behind-requires c κs = search needs
+job-behind-requires c κs =
+    header-limits _ (header-sound _ _ _ (header-told _ _ (c .before .before .before .read-header .ensures) _ _ (c .before .h .given .1)))
 
 returns : tie.Need-returns
 unfolding jobOf jobValue
