@@ -1,13 +1,14 @@
 -- Filling, computed: the largest stopping set of a cube's flags by peeling, and tests of the outcomes of `fill`. A cube has no filling where some
 -- line of known cells is not right: a filling would be the same there, and right.
 use mathlib.Core.Path.{_≡_, refl, sym, ap, subst, _∙_}
-use mathlib.Core.Bool.{Bool, true, false, not, false≢true, Bool·beq}
+use mathlib.Core.Bool.{Bool, true, false, cond, not, false≢true, Bool·beq}
 use mathlib.Core.List.{List}
 use Prim.Native.Nat.{ℕ, _+_, _*_, _<_}
+use native.Mathlib.Decide.{decLt}
 use native.Mathlib.Omega.{arith}
-use lib.Dec.{eqb}
-use lib.ListN.{length}
-use borrow.Author.Tests.{eqb-true, eq-eqb, not-true}
+use lib.Dec.{eqb, leb}
+use lib.ListN.{length, getD, List·getD-eq-default}
+use borrow.Author.Tests.{eqb-true, eqb-false, eq-eqb, leb-true, not-true}
 use Rattle.answer.specs.Values.{Value, gives, refused, refused-at}
 use Rattle.field.specs.Field.{reduction}
 use Rattle.line.specs.Line.{Codeword}
@@ -20,13 +21,13 @@ use Rattle.stopping.proofs.Peeling.{has, listed, has-listed}
 use Rattle.stopping.proofs.CubeLines.{cubeLargest, cube-largest}
 use Rattle.shape.specs.declared.Shape.{Shape}
 use Rattle.shape.specs.Shapes.{both, cells, IsLine}
-use Rattle.shape.specs.Flags.{missing, flagsValid}
+use Rattle.shape.specs.Flags.{missing}
 use Rattle.shape.proofs.Valid.{both-parts}
 use Rattle.shape.proofs.Geometry.{line-cell-lt}
 use Rattle.data.specs.Data.{layer}
 use Rattle.cube.specs.Cube.{layerLine}
-use Rattle.fill.specs.Fill.{CellsLeft, left, flagsChecked, Filling, FillOutcome, fill-done, fill-contradiction}
-use Rattle.examples.proofs.Tests.{implies, implies-sound, implies-true, same, same-sound, passes?, passes?-sound, all₂, all₂-sound, allLines, allLines-sound, allLines-true, bytes?, bytes?-sound, line?, line?-sound, line?-true}
+use Rattle.fill.specs.Fill.{CellsLeft, left, flagsChecked, Filling, Flagged, FillOutcome, fill-done, fill-contradiction}
+use Rattle.examples.proofs.Tests.{implies, implies-sound, implies-true, same, same-sound, passes?, passes?-sound, all, all-sound, all₂, all₂-sound, allLines, allLines-sound, allLines-true, bytes?, bytes?-sound, line?, line?-sound, line?-true}
 
 -- ---- the largest stopping set
 
@@ -132,27 +133,64 @@ known-right r sh xs M K v u filling = rightOff?-true r sh M xs lines
         in
         codeword-cong r (layerLine sh v w f s) (layerLine sh xs w f s) n (line-agrees filling f s n l z w m) (filling .lines f s n l none w m)
 
+-- ---- flags
+
+-- a flag that was f may be g after a filling
+unfoldable pub flag? : (f g : ℕ) → Bool
+flag? f g = cond (eqb f 1) (leb g 1) (eqb g f)
+
+unfoldable pub flagged? : (fs fs′ : List ℕ) → Bool
+flagged? fs fs′ = both (eqb (length fs′) (length fs)) (all (length fs) (λ n. flag? (getD fs n 0) (getD fs′ n 0)))
+
+flag?-known : (f g : ℕ) → eqb f 1 ≡ false → flag? f g ≡ true → g ≡ f
+unfolding flag?
+flag?-known f g e h = eqb-true g f (rw e at h)
+
+flag?-filled : (f g : ℕ) → eqb f 1 ≡ true → eqb g 1 ≡ false → flag? f g ≡ true → g ≡ 0
+unfolding flag?
+flag?-filled f g e m h = let ne = eqb-false g 1 m in omega (arith, leb-true g 1 (rw e at h))
+
+flagged?-at : (fs fs′ : List ℕ) → flagged? fs fs′ ≡ true → (n : ℕ) → flag? (getD fs n 0) (getD fs′ n 0) ≡ true
+unfolding flagged? flag?
+flagged?-at fs fs′ h n =
+    let (size, flags) = both-parts (eqb (length fs′) (length fs)) _ h in
+    elim (decLt n (length fs)) [
+      | yes l ↦ all-sound (length fs) _ flags n l
+      | no b ↦
+          rw (
+            List·getD-eq-default fs 0 {n = n} (omega arith),
+            List·getD-eq-default fs′ 0 {n = n} (omega (arith, eqb-true (length fs′) (length fs) size)),
+          )
+    ]
+
+flagged?-sound : (fs fs′ : List ℕ) → flagged? fs fs′ ≡ true → Flagged fs fs′
+unfolding flagged? missing
+flagged?-sound fs fs′ h =
+    record {
+      size = eqb-true _ _ (both-parts (eqb (length fs′) (length fs)) _ h .0);
+      known = λ n e. flag?-known (getD fs n 0) (getD fs′ n 0) e (flagged?-at fs fs′ h n);
+      filled = λ n e m. flag?-filled (getD fs n 0) (getD fs′ n 0) e m (flagged?-at fs fs′ h n);
+    }
+
 -- ---- what `fill` answers and leaves
 
 unfoldable pub filled? : Shape → (xs fs xs′ fs′ : List ℕ) → ℕ → Bool
 filled? sh xs fs xs′ fs′ count =
     both (passes? (flagsChecked sh (length xs) fs))
-    (both (eqb (length fs′) (length fs))
-    (both (flagsValid fs′)
+    (both (flagged? fs fs′)
     (both (largest? sh (missing fs) (missing fs′))
-    (both (filling? reduction sh xs (missing fs) (missing fs′) xs′) (eqb (number (missing fs′) (cells sh)) count)))))
+    (both (filling? reduction sh xs (missing fs) (missing fs′) xs′) (eqb (number (missing fs′) (cells sh)) count))))
 
 filled?-sound : (sh : Shape) (xs fs xs′ fs′ : List ℕ) (count : ℕ) → filled? sh xs fs xs′ fs′ count ≡ true
     → FillOutcome reduction sh xs fs xs′ fs′ (gives (left count))
 unfolding filled?
 filled?-sound sh xs fs xs′ fs′ count h =
     let (checks, h1) = both-parts (passes? (flagsChecked sh (length xs) fs)) _ h in
-    let (size, h2) = both-parts (eqb (length fs′) (length fs)) _ h1 in
-    let (flags, h3) = both-parts (flagsValid fs′) _ h2 in
-    let (stuck, h4) = both-parts (largest? sh (missing fs) (missing fs′)) _ h3 in
-    let (filling, counted) = both-parts (filling? reduction sh xs (missing fs) (missing fs′) xs′) _ h4 in
+    let (flags, h2) = both-parts (flagged? fs fs′) _ h1 in
+    let (stuck, h3) = both-parts (largest? sh (missing fs) (missing fs′)) _ h2 in
+    let (filling, counted) = both-parts (filling? reduction sh xs (missing fs) (missing fs′) xs′) _ h3 in
     subst (λ (n : ℕ). FillOutcome reduction sh xs fs xs′ fs′ (gives (left n))) (eqb-true _ _ counted)
-    (fill-done (passes?-sound _ checks) (eqb-true _ _ size) flags (largest?-sound sh _ _ stuck) (filling?-sound reduction sh xs _ _ xs′ filling))
+    (fill-done (passes?-sound _ checks) (flagged?-sound fs fs′ flags) (largest?-sound sh _ _ stuck) (filling?-sound reduction sh xs _ _ xs′ filling))
 
 unfoldable pub contradicts? : Shape → (xs fs xs′ fs′ : List ℕ) → Bool
 contradicts? sh xs fs xs′ fs′ =

@@ -23,7 +23,7 @@ use Rattle.fill.specs.Fill.{flagsChecked}
 use Rattle.mend.specs.Mend.{mendChecked, wholeChecked}
 use Rattle.examples.specs.Examples.{Example, product, right, encodes, fills, leaves, mends, no-place, Holds, Each, smallest, planes, made, wider, diagonal, diagonals, lastKnown, lastKnownFlags, examples}
 use Rattle.examples.proofs.Tests.{implies, same, passes?, all, all₂, axisLines, allLines, bytes?, codeword?, codeword?-sound, line?, codeCube?, holdsData?, encodes?, encodes?-sound}
-use Rattle.examples.proofs.Filling.{largest?, leaves?, leaves?-sound, kept?, zero?, rightOff?, filling?, filled?, contradicts?, fills?, fills?-sound}
+use Rattle.examples.proofs.Filling.{largest?, leaves?, leaves?-sound, kept?, zero?, rightOff?, filling?, flag?, flagged?, filled?, contradicts?, fills?, fills?-sound}
 use Rattle.examples.proofs.Mending.{corrects?, pass?, mended?, mends?, mends?-sound, no-place?, no-place?-sound}
 
 unfoldable pub holds? : Example → Bool
@@ -63,7 +63,7 @@ unfolding examples smallest planes made wider diagonal diagonals lastKnown lastK
     bytes? codeword? line? codeCube? holdsData? encodes? slicesChecked
     within lengthsFit sizes shapeChecked check andThen missing flagsValid flagsChecked number onLine implies same passes?
     has listed clear few peels peelLine pass stable peeled largest table grid lines1 lines2 lines3 cubeLines cubeLargest largest? leaves?
-    kept? zero? rightOff? filling? filled? contradicts? fills?
+    kept? zero? rightOff? filling? flag? flagged? filled? contradicts? fills?
     pick errorPlace corrected noneMissing wholeChecked mendChecked corrects? pass? mended? mends? no-place?
 examples-pass = refl
 

@@ -7,6 +7,8 @@ mod Marks
 mod Lines
 -- Checks: the checks 1 to 5, by what each of them finds, and their numbers.
 pub mod Checks
+-- Flagged: the flags after a filling are valid, and the cells left determine them.
+pub mod Flagged
 -- Outcome: what the steps of a call add up to.
 mod Outcome
 -- Unique: there is at most one filling, the contract of `fill` determines answer, cube and flags, and bytes of missing cells do not matter.

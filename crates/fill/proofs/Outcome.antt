@@ -5,9 +5,10 @@ use mathlib.Core.Bool.{true, false, true≢false}
 use mathlib.Core.List.{List}
 use mathlib.Core.Logic.{⊎-elim}
 use Prim.Native.Nat.{ℕ, _+_, _*_, _≤_, _<_}
+use native.Mathlib.Decide.{decLt}
 use native.Mathlib.Omega.{arith}
 use borrow.Author.Tests.{eqb-true, eq-eqb}
-use lib.ListN.{length, getD}
+use lib.ListN.{length, getD, List·getD-eq-default}
 use lib.Seq.{ext-getD}
 use Rattle.answer.specs.declared.Fault.the-variants.{Contradiction}
 use Rattle.answer.specs.declared.Refusal.{Refusal}
@@ -28,12 +29,12 @@ use Rattle.stopping.proofs.Stopping.{onLine-cong, onLine-zero, largest-cong, pe
 use Rattle.stopping.proofs.Cube.{cube-fits}
 use Rattle.fill.specs.declared.FillAnswer.the-variants.{Left, Refused as NotFilled}
 use Rattle.shape.specs.Flags.{missing}
-use Rattle.fill.specs.Fill.{CellsLeft, fillValue, flagsChecked, Filling, Cleared, FillOutcome, fill-refused, fill-done, fill-contradiction}
+use Rattle.fill.specs.Fill.{CellsLeft, fillValue, flagsChecked, Filling, Cleared, Flagged, FillOutcome, fill-refused, fill-done, fill-contradiction}
 use Rattle.peel.specs.Peel.{Sized, Stops, Agrees, Peeled}
 use Rattle.shape.specs.Inner.Marks.{isMarked, Remarked}
 use Rattle.fill.specs.Inner.Verify.{Right, AllRight}
 use Rattle.fill.proofs.Checks.{done-sized, done-flags}
-use Rattle.shape.proofs.Missing.{valid-flag, flags-valid, missing-one, not-missing, missing-cong}
+use Rattle.shape.proofs.Missing.{valid-flag, missing-one, not-missing, missing-cong}
 use Rattle.peel.proofs.Reaching.{reaches-missing}
 
 -- ---- flags at the end of a call
@@ -106,10 +107,26 @@ module _ (r : ℕ) (sh : Shape) (xs fs zs ys gs : List ℕ) (done : flagsChecked
     settled : (n : ℕ) → n < cells sh → missing gs n ≡ missing hs n
     settled n l = sym (settled-missing gs hs m n (omega (arith, gs-size)))
 
-    settled-low : (n : ℕ) → n < length hs → getD hs n 0 ≤ 1
-    settled-low n l =
-        ⊎-elim (λ (e : isMarked gs n ≡ true). omega (arith, m .marks n (omega (arith, m .size)) e))
-        (λ (e : isMarked gs n ≡ false). omega (arith, m .others n e, kept-then n e, flag-low n)) (true-or-false (isMarked gs n))
+    settled-kept : (n : ℕ) → isMarked gs n ≡ false → getD hs n 0 ≡ getD fs n 0
+    settled-kept n e = m .others n e ∙ kept-then n e
+
+    settled-known : (n : ℕ) → missing fs n ≡ false → getD hs n 0 ≡ getD fs n 0
+    settled-known n e =
+        ⊎-elim (λ (k : isMarked gs n ≡ true). absurd (true≢false (sym (missing-one fs n (filled-then n k)) ∙ e))) (settled-kept n)
+        (true-or-false (isMarked gs n))
+
+    settled-filled : (n : ℕ) → missing fs n ≡ true → missing hs n ≡ false → getD hs n 0 ≡ 0
+    settled-filled n e f =
+        elim (decLt n (length gs)) [
+          | yes l ↦
+              ⊎-elim (m .marks n l)
+              (λ (k : isMarked gs n ≡ false). absurd (true≢false (sym (missing-cong fs hs n (settled-kept n k) ∙ e) ∙ f)))
+              (true-or-false (isMarked gs n))
+          | no b ↦ List·getD-eq-default hs 0 {n = n} (omega (arith, m .size))
+        ]
+
+    settled-flags : Flagged fs hs
+    settled-flags = record { size = m .size ∙ p .reaches .flags; known = settled-known; filled = settled-filled }
 
     settled-filling : Filling r sh xs (missing fs) (missing gs) ys → Filling r sh xs (missing fs) (missing hs) ys
     settled-filling f =
@@ -129,8 +146,7 @@ module _ (r : ℕ) (sh : Shape) (xs fs zs ys gs : List ℕ) (done : flagsChecked
     unfolding fillValue
     filled-outcome bytes h n e =
         rw (e ∙ ap (number (missing hs)) gs-size)
-        (fill-done done (m .size ∙ p .reaches .flags) (flags-valid hs settled-low) (largest-cong (cube-fits sh) settled peeled-largest)
-        (settled-filling (right-filling bytes h)))
+        (fill-done done settled-flags (largest-cong (cube-fits sh) settled peeled-largest) (settled-filling (right-filling bytes h)))
 
   -- ---- contradiction
 

@@ -15,7 +15,7 @@ use Rattle.field.specs.Field.{Primitive}
 use Rattle.line.proofs.Codeword.{codeword-cong}
 use Rattle.shape.specs.declared.Shape.{Shape}
 use Rattle.shape.specs.Shapes.{Valid, cells, cell, IsLine}
-use Rattle.shape.specs.Flags.{missing, flagsValid}
+use Rattle.shape.specs.Flags.{missing}
 use Rattle.shape.proofs.Valid.{volume-le}
 use Rattle.shape.proofs.Geometry.{line-cell-lt}
 use Rattle.data.specs.Data.{layer}
@@ -26,7 +26,7 @@ use Rattle.stopping.proofs.Stopping.{onLine-zero, stopping-size}
 use Rattle.stopping.proofs.Cube.{stopping-none-or-27}
 use Rattle.fill.specs.declared.FillAnswer.{FillAnswer}
 use Rattle.fill.specs.declared.FillAnswer.the-variants.{Left, Refused}
-use Rattle.fill.specs.Fill.{CellsLeft, left, fillValue, flagsChecked, Filling, Cleared, FillOutcome, fill-refused, fill-done, fill-contradiction}
+use Rattle.fill.specs.Fill.{CellsLeft, left, fillValue, flagsChecked, Filling, Cleared, Flagged, FillOutcome, fill-refused, fill-done, fill-contradiction}
 use Rattle.fill.proofs.Checks.{done-sized}
 use Rattle.fill.proofs.Unique.{layers-ext, filling-unique, done-refused}
 
@@ -108,8 +108,7 @@ code-filling r sh xs X M K size code known inside =
 -- the answer, cube and flags of a call on a code cube X with erasures: X with 00h on the cells left, which are the largest stopping set
 pub record Recovered (sh : Shape) (fs X xs′ fs′ : List ℕ) (value : Value CellsLeft) : Type 0 where
   pub answer : value ≡ gives (left (number (missing fs′) (cells sh)))
-  pub size : length fs′ ≡ length fs
-  pub valid : flagsValid fs′ ≡ true
+  pub flags : Flagged fs fs′
   pub largest : Largest (cells sh) (IsLine sh) (missing fs) (missing fs′)
   pub cube : Cleared sh X (missing fs′) xs′
 
@@ -117,15 +116,14 @@ pub code-recovered : {r : ℕ} {sh : Shape} {xs fs xs′ fs′ : List ℕ} {valu
     → flagsChecked sh (length xs) fs ≡ passes tt → (X : List ℕ) → CodeCube r sh X
     → ((n w : ℕ) → n < cells sh → w < sh .w → missing fs n ≡ false → layer sh xs w n ≡ layer sh X w n) → Recovered sh fs X xs′ fs′ value
 code-recovered prim (fill-refused n e x g) done X code known = absurd (done-refused done e)
-code-recovered {r} {sh} {xs} {fs} {xs′} {fs′} prim (fill-done d s v k u) done X code known =
+code-recovered {r} {sh} {xs} {fs} {xs′} {fs′} prim (fill-done d g k u) done X code known =
     let z = done-sized sh xs fs d in
     let y = code-filling r sh xs X (missing fs) (missing fs′) (z .bytes) code known (k .stopping .inside) in
     let same : without sh (missing fs′) X ≡ xs′ =
     filling-unique r prim sh (z .valid) xs (missing fs) (missing fs′) k (without sh (missing fs′) X) xs′ y u (z .bytes) in
     record {
       answer = refl;
-      size = s;
-      valid = v;
+      flags = g;
       largest = k;
       cube = subst (Cleared sh X (missing fs′)) same (without-cleared sh (missing fs′) X (code .size));
     }
@@ -144,7 +142,7 @@ module _ {r : ℕ} {sh : Shape} {xs fs xs′ fs′ : List ℕ} where
   -- no more cells are left than the largest cube has
   pub left-le : {n : ℕ} → FillOutcome r sh xs fs xs′ fs′ (gives (left n)) → n ≤ 16581375
   unfolding cells
-  left-le (fill-done d s v k u) =
+  left-le (fill-done d g k u) =
       let ok : Valid sh = done-sized sh xs fs d .valid in
       omega
       (arith, number-le (missing fs′) (cells sh), volume-le (sh .l1) (sh .l2) (sh .l3) (ok .l1-high) (ok .l2-high) (ok .l3-high))
@@ -154,7 +152,7 @@ module _ {r : ℕ} {sh : Shape} {xs fs xs′ fs′ : List ℕ} where
       → flagsChecked sh (length xs) fs ≡ passes tt → number (missing fs) (cells sh) ≤ 26
       → (value ≡ gives (left 0)) ⊎ (value ≡ refused 13)
   few-filled (fill-refused n e x g) done few = absurd (done-refused done e)
-  few-filled (fill-done d s v k u) done few =
+  few-filled (fill-done d g k u) done few =
       inl
       (ap (λ (n : ℕ). gives (left n))
       (⊎-elim (λ z. z) (λ (t : 27 ≤ number (missing fs′) (cells sh)). absurd (omega (arith, stopping-size (k .stopping))))

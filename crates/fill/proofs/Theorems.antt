@@ -3,7 +3,6 @@ use mathlib.Core.Path.{_≡_, refl, sym, ap, _∙_}
 use mathlib.Core.Logic.{inl, inr}
 use Prim.Native.Nat.{ℕ, _<_}
 use native.Mathlib.Omega.{arith}
-use lib.ListN.{length}
 use Rattle.answer.specs.Values.{gives}
 use Rattle.answer.proofs.Values.{gives-refused}
 use Rattle.shape.specs.Shapes.{cells}
@@ -13,10 +12,11 @@ use Rattle.stopping.proofs.Stopping.{largest-unique}
 use Rattle.fill.specs.Fill.{left, Filling, fill-refused, fill-done, fill-contradiction}
 use Rattle.fill.specs.Theorems.{OneFilling, MissingNotRead, FillingOrContradiction, CheckOfCube}
 use Rattle.peel.specs.Peel.{Sized}
-use Rattle.fill.proofs.Checks.{done-sized, done-flags}
+use Rattle.fill.proofs.Checks.{done-sized}
 use Rattle.shape.proofs.Missing.{none-missing}
+use Rattle.fill.proofs.Flagged.{flagged-refl, flagged-unique}
 use Rattle.fill.proofs.Whole.{empty, code-filling, kept, filled-code}
-use Rattle.fill.proofs.Unique.{flags-ext, filling-unique, filling-cong, done-refused, outcome-known}
+use Rattle.fill.proofs.Unique.{filling-unique, filling-cong, done-refused, outcome-known}
 
 pub one-filling : OneFilling
 unfolding OneFilling
@@ -29,7 +29,7 @@ missing-not-read r sh xs ys fs xs′ fs′ value s done o = outcome-known s done
 pub filling-or-contradiction : FillingOrContradiction
 unfolding FillingOrContradiction
 filling-or-contradiction r p sh xs fs xs′ fs′ _ done (fill-refused n e x g) K k = absurd (done-refused done e)
-filling-or-contradiction r p sh xs fs xs′ fs′ _ done (fill-done d s v l u) K k = (
+filling-or-contradiction r p sh xs fs xs′ fs′ _ done (fill-done d g l u) K k = (
   (λ e. absurd (gives-refused _ 13 e), λ none. absurd (none xs′ there)),
   λ w f. (
     ap (λ (n : ℕ). gives (left n)) (number-cong _ _ (cells sh) same),
@@ -52,7 +52,7 @@ filling-or-contradiction r p sh xs fs xs′ fs′ _ done (fill-contradiction d K
 pub check-of-cube : CheckOfCube
 unfolding CheckOfCube
 check-of-cube r sh xs fs xs′ fs′ _ done none (fill-refused n e x g) = absurd (done-refused done e)
-check-of-cube r sh xs fs xs′ fs′ _ done none (fill-done d s v k u) =
+check-of-cube r sh xs fs xs′ fs′ _ done none (fill-done d g k u) =
     let same = kept r sh xs fs none d xs′ (u .size) (u .known) in
     let gone = empty r sh xs fs none d (missing fs′) k in (
       inl (
@@ -60,7 +60,7 @@ check-of-cube r sh xs fs xs′ fs′ _ done none (fill-done d s v k u) =
         ap (λ (n : ℕ). gives (left n)) (number-none (missing fs′) (cells sh) gone),
       ),
       same,
-      flags-ext fs′ fs v (done-flags sh (length xs) fs d) s
+      flagged-unique g (flagged-refl fs)
           (λ n l. gone n (omega (arith, done-sized sh xs fs d .flags)) ∙ sym (none-missing fs none n)),
     )
 check-of-cube r sh xs fs xs′ fs′ _ done none (fill-contradiction d K k wrong c e) = (

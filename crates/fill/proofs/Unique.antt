@@ -10,15 +10,14 @@ use native.Mathlib.Nat.{le-trans}
 use native.Mathlib.Omega.{arith}
 use borrow.Author.Tests.{eqb-true, eq-eqb, not-false}
 use lib.Dec.{eqb}
-use lib.ListN.{length, getD}
-use lib.Seq.{ext-getD}
+use lib.ListN.{length}
 use Rattle.answer.specs.Values.{Value, gives, refused, Checked, passes, fails}
 use Rattle.answer.proofs.Values.{fails-injective, passes-fails}
 use Rattle.field.specs.Field.{Primitive}
 use Rattle.line.proofs.Codeword.{codeword-unique}
 use Rattle.shape.specs.declared.Shape.{Shape}
 use Rattle.shape.specs.Shapes.{Valid, cells, IsLine}
-use Rattle.shape.specs.Flags.{missing, flagsValid}
+use Rattle.shape.specs.Flags.{missing}
 use Rattle.shape.proofs.Geometry.{cell-lt-cells, line-cell-lt, line-length-high}
 use Rattle.data.specs.Data.{layer}
 use Rattle.cube.specs.Cube.{layerLine}
@@ -26,11 +25,11 @@ use Rattle.data.proofs.Cells.{cells-ext}
 use Rattle.stopping.specs.Stopping.{number, onLine, Stopping, Largest}
 use Rattle.stopping.proofs.Number.{true-or-false, not-true-false, number-few}
 use Rattle.stopping.proofs.Stopping.{union, union-left, union-right, union-cases, union-neither, onLine-mono, onLine-cong, onLine-none, onLine-zero, stops-or-peels, largest-unique}
-use Rattle.fill.specs.Fill.{CellsLeft, left, flagsChecked, Filling, Cleared, FillOutcome, fill-refused, fill-done, fill-contradiction}
+use Rattle.fill.specs.Fill.{CellsLeft, left, flagsChecked, Filling, Cleared, Flagged, FillOutcome, fill-refused, fill-done, fill-contradiction}
 use Rattle.fill.specs.Theorems.{SameKnown}
 use Rattle.peel.specs.Peel.{Sized}
 use Rattle.fill.proofs.Checks.{done-sized}
-use Rattle.shape.proofs.Missing.{valid-flag, one-missing, missing-one}
+use Rattle.fill.proofs.Flagged.{flagged-unique}
 
 -- lists of W bytes a cell that agree in every layer of every cell are equal
 pub layers-ext : (sh : Shape) (xs ys : List ℕ) → Valid sh → length xs ≡ sh .w * cells sh → length ys ≡ sh .w * cells sh
@@ -114,20 +113,6 @@ module _ (r : ℕ) (p : Primitive r) (sh : Shape) (valid : Valid sh) (xs : List 
 
 -- ---- the contract determines answer, cube and flags
 
--- flags that are 0 or 1 and missing at the same cells are the same
-pub flags-ext : (fs gs : List ℕ) → flagsValid fs ≡ true → flagsValid gs ≡ true → length fs ≡ length gs
-    → ((n : ℕ) → n < length fs → missing fs n ≡ missing gs n) → fs ≡ gs
-flags-ext fs gs vf vg size same =
-    ext-getD 0 fs gs size
-    (λ n l.
-    ⊎-elim (λ (e : missing fs n ≡ true). one-missing fs n e ∙ sym (one-missing gs n (sym (same n l) ∙ e)))
-    (λ (e : missing fs n ≡ false). zero fs vf n e ∙ sym (zero gs vg n (sym (same n l) ∙ e))) (true-or-false (missing fs n)))
-  where
-    zero : (hs : List ℕ) → flagsValid hs ≡ true → (n : ℕ) → missing hs n ≡ false → getD hs n 0 ≡ 0
-    zero hs v n e =
-        let ne : getD hs n 0 ≢ 1 = λ o. true≢false (sym (missing-one hs n o) ∙ e) in
-        omega (arith, valid-flag hs v n)
-
 -- a filling for K is one for the same set
 pub filling-cong : {r : ℕ} {sh : Shape} {xs : List ℕ} {M K K' : ℕ → Bool} {v : List ℕ} → ((n : ℕ) → n < cells sh → K n ≡ K' n)
     → Filling r sh xs M K v → Filling r sh xs M K' v
@@ -158,11 +143,11 @@ pub done-refused : {c : Checked Unit} {n : ℕ} → c ≡ passes tt → c ≡ fa
 done-refused {c} {n} p q = passes-fails tt n (sym p ∙ q)
 
 module _ {r : ℕ} (p : Primitive r) where
-  filled-same : (sh : Shape) (xs fs ys gs zs hs : List ℕ) → Sized sh xs fs → length gs ≡ length fs → length hs ≡ length fs → flagsValid gs ≡ true
-      → flagsValid hs ≡ true → Largest (cells sh) (IsLine sh) (missing fs) (missing gs) → Largest (cells sh) (IsLine sh) (missing fs) (missing hs)
+  filled-same : (sh : Shape) (xs fs ys gs zs hs : List ℕ) → Sized sh xs fs → Flagged fs gs → Flagged fs hs
+      → Largest (cells sh) (IsLine sh) (missing fs) (missing gs) → Largest (cells sh) (IsLine sh) (missing fs) (missing hs)
       → Filling r sh xs (missing fs) (missing gs) ys → Filling r sh xs (missing fs) (missing hs) zs
       → Same (gives (left (number (missing gs) (cells sh)))) (gives (left (number (missing hs) (cells sh)))) ys zs gs hs
-  filled-same sh xs fs ys gs zs hs z sg sh' vg vh k k' u u' =
+  filled-same sh xs fs ys gs zs hs z g h k k' u u' =
       record {
         answer = ap (λ (q : List ℕ). gives (left (number (missing q) (cells sh)))) same;
         cube = filling-unique r p sh (z .valid) xs (missing fs) (missing hs) k' ys zs (filling-cong (largest-unique k k') u) u' (z .bytes);
@@ -170,20 +155,20 @@ module _ {r : ℕ} (p : Primitive r) where
       }
     where
       same : gs ≡ hs
-      same = flags-ext gs hs vg vh (sg ∙ sym sh') (λ n l. largest-unique k k' n (omega (arith, z .flags)))
+      same = flagged-unique g h (λ n l. largest-unique k k' n (omega (arith, z .flags)))
 
   pub outcome-determined : {sh : Shape} {xs fs ys gs zs hs : List ℕ} {a b : Value CellsLeft}
       → FillOutcome r sh xs fs ys gs a → FillOutcome r sh xs fs zs hs b → Same a b ys zs gs hs
   outcome-determined (fill-refused n e x g) (fill-refused m f x' g') =
       record { answer = ap refused (fails-injective n m (sym e ∙ f)); cube = x ∙ sym x'; flags = g ∙ sym g' }
-  outcome-determined (fill-refused n e x g) (fill-done d s v k u) = absurd (done-refused d e)
+  outcome-determined (fill-refused n e x y) (fill-done d g k u) = absurd (done-refused d e)
   outcome-determined (fill-refused n e x g) (fill-contradiction d k l c z h) = absurd (done-refused d e)
-  outcome-determined (fill-done d s v k u) (fill-refused n e x g) = absurd (done-refused d e)
-  outcome-determined {sh} {xs} {fs} {ys} {gs} {zs} {hs} (fill-done d s v k u) (fill-done d' s' v' k' u') =
-      filled-same sh xs fs ys gs zs hs (done-sized sh xs fs d) s s' v v' k k' u u'
-  outcome-determined (fill-done d s v k u) (fill-contradiction d' k' l' n' c' e') = absurd (n' _ (filling-cong (largest-unique k l') u))
+  outcome-determined (fill-done d g k u) (fill-refused n e x y) = absurd (done-refused d e)
+  outcome-determined {sh} {xs} {fs} {ys} {gs} {zs} {hs} (fill-done d g k u) (fill-done d' h k' u') =
+      filled-same sh xs fs ys gs zs hs (done-sized sh xs fs d) g h k k' u u'
+  outcome-determined (fill-done d g k u) (fill-contradiction d' k' l' n' c' e') = absurd (n' _ (filling-cong (largest-unique k l') u))
   outcome-determined (fill-contradiction d k l n c e) (fill-refused m f x g) = absurd (done-refused d f)
-  outcome-determined (fill-contradiction d k l n c e) (fill-done d' s' v' k' u') = absurd (n _ (filling-cong (largest-unique k' l) u'))
+  outcome-determined (fill-contradiction d k l n c e) (fill-done d' h k' u') = absurd (n _ (filling-cong (largest-unique k' l) u'))
   outcome-determined {sh} {xs} {fs} (fill-contradiction d k l n c e) (fill-contradiction d' k' l' n' c' e') =
       record { answer = refl; cube = cleared-unique (done-sized sh xs fs d) c c'; flags = e ∙ sym e' }
 
@@ -204,7 +189,7 @@ filling-known s f =
 pub outcome-known : {r : ℕ} {sh : Shape} {xs ys fs zs gs : List ℕ} {value : Value CellsLeft} → SameKnown sh (missing fs) xs ys
     → flagsChecked sh (length xs) fs ≡ passes tt → FillOutcome r sh xs fs zs gs value → FillOutcome r sh ys fs zs gs value
 outcome-known s done (fill-refused n e x g) = absurd (done-refused done e)
-outcome-known s done (fill-done d t v k u) = fill-done (rw (← (s .size)) d) t v k (filling-known s u)
+outcome-known s done (fill-done d g k u) = fill-done (rw (← (s .size)) d) g k (filling-known s u)
 outcome-known {r} {sh} {xs} {ys} {fs} s done (fill-contradiction d K l n c e) =
     fill-contradiction (rw (← (s .size)) d) K l
     (λ v f. n v (filling-known (record { size = sym (s .size); known = λ m w q b h. sym (s .known m w q b h) }) f))

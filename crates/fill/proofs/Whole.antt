@@ -21,8 +21,9 @@ use Rattle.stopping.proofs.Stopping.{onLine-none}
 use Rattle.fill.specs.declared.FillAnswer.the-variants.{Left, Refused}
 use Rattle.fill.specs.Fill.{CellsLeft, left, fillValue, flagsChecked, Filling, FillOutcome, fill-done, fill-contradiction}
 use Rattle.fill.specs.Inner.Verify.{WholeChecked}
-use Rattle.fill.proofs.Checks.{done-sized, done-flags}
+use Rattle.fill.proofs.Checks.{done-sized}
 use Rattle.shape.proofs.Missing.{none-missing}
+use Rattle.fill.proofs.Flagged.{flagged-refl}
 use Rattle.fill.proofs.Unique.{layers-ext}
 
 module _ (r : ℕ) (sh : Shape) (xs fs : List ℕ) (none : noneMissing fs ≡ true) (done : flagsChecked sh (length xs) fs ≡ passes tt) where
@@ -72,7 +73,7 @@ module _ (r : ℕ) (sh : Shape) (xs fs : List ℕ) (none : noneMissing fs ≡ tr
   code-outcome : CodeCube r sh xs → FillOutcome r sh xs fs xs fs (gives (left 0))
   code-outcome code =
       subst (λ (n : ℕ). FillOutcome r sh xs fs xs fs (gives (left n))) (number-none (missing fs) (cells sh) (λ n l. known n))
-      (fill-done done refl (done-flags sh (length xs) fs done) largest (code-filling (missing fs) largest code))
+      (fill-done done (flagged-refl fs) largest (code-filling (missing fs) largest code))
 
   other-outcome : (CodeCube r sh xs → ⊥) → FillOutcome r sh xs fs xs fs (refused 13)
   other-outcome wrong =

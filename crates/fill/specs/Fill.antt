@@ -50,6 +50,13 @@ pub record Cleared (sh : Shape) (xs : List ℕ) (M : ℕ → Bool) (v : List ℕ
   pub known : (n w : ℕ) → n < cells sh → w < sh .w → M n ≡ false → layer sh v w n ≡ layer sh xs w n
   pub missing : (n w : ℕ) → n < cells sh → w < sh .w → M n ≡ true → layer sh v w n ≡ 0
 
+-- "its flags become 0, cells of K … keep flag 1": the flags after a filling. That they are valid where those before it were need not be said, it
+-- follows (`flagged-valid`).
+pub record Flagged (fs fs′ : List ℕ) : Type 0 where
+  pub size : length fs′ ≡ length fs
+  pub known : (n : ℕ) → missing fs n ≡ false → getD fs′ n 0 ≡ getD fs n 0
+  pub filled : (n : ℕ) → missing fs n ≡ true → missing fs′ n ≡ false → getD fs′ n 0 ≡ 0
+
 -- What `fill` answers and leaves. The flags afterwards are K; on 13 K is only shown to exist, and the flags are as before.
 pub data FillOutcome (r : ℕ) (sh : Shape) (xs fs xs′ fs′ : List ℕ) : Value CellsLeft → Type 0 where
   -- "Numbers 1 to 11 and 15 change no lent byte"
@@ -58,7 +65,7 @@ pub data FillOutcome (r : ℕ) (sh : Shape) (xs fs xs′ fs′ : List ℕ) : Val
       FillOutcome r sh xs fs xs′ fs′ (refused n)
   -- "If it exists, it is written, its flags become 0, cells of K get 00h and keep flag 1, and the answer carries K's size."
   fill-done :
-      flagsChecked sh (length xs) fs ≡ passes tt → length fs′ ≡ length fs → flagsValid fs′ ≡ true →
+      flagsChecked sh (length xs) fs ≡ passes tt → Flagged fs fs′ →
       Largest (cells sh) (IsLine sh) (missing fs) (missing fs′) →
       Filling r sh xs (missing fs) (missing fs′) xs′ →
       FillOutcome r sh xs fs xs′ fs′ (gives (left (number (missing fs′) (cells sh))))
