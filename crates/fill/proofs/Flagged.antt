@@ -15,7 +15,7 @@ use Rattle.fill.specs.Fill.{Flagged}
 pub flagged-valid : {fs fs′ : List ℕ} → flagsValid fs ≡ true → Flagged fs fs′ → flagsValid fs′ ≡ true
 flagged-valid {fs} {fs′} v f = flags-valid fs′ (λ n l. low n)
   where
-    low : (n : ℕ) → getD fs′ n 0 ≤ 1
+    low : (n : ℕ) → getD fs′ n 0 ≤ 2
     low n =
         ⊎-elim
         (λ (e : missing fs n ≡ true).

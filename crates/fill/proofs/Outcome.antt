@@ -66,8 +66,8 @@ module _ (r : ℕ) (sh : Shape) (xs fs zs ys gs : List ℕ) (done : flagsChecked
   gs-size : length gs ≡ cells sh
   gs-size = p .reaches .flags ∙ sized .flags
 
-  -- a flag is as at entry, 0 or 1, or a filled cell's
-  flag-low : (n : ℕ) → getD fs n 0 ≤ 1
+  -- a flag is as at entry, 0, 1 or 2, or a filled cell's
+  flag-low : (n : ℕ) → getD fs n 0 ≤ 2
   flag-low = valid-flag fs (done-flags sh (length xs) fs done)
 
   filled-then : (n : ℕ) → isMarked gs n ≡ true → getD fs n 0 ≡ 1

@@ -26,7 +26,7 @@ unfoldable pub fillValue : FillAnswer → Value CellsLeft
 fillValue (Left n) = gives (left n)
 fillValue (Refused f) = refusal f
 
--- The checks 1, 2, 3, 4, 5 in this order.
+-- The checks 1, 2, 3, 4, 5 in this order; request P5: "5 a flag above 2".
 unfoldable pub flagsChecked : Shape → ℕ → List ℕ → Checked Unit
 flagsChecked sh cubeLength fs =
     andThen (shapeChecked sh) (λ z.
@@ -50,8 +50,8 @@ pub record Cleared (sh : Shape) (xs : List ℕ) (M : ℕ → Bool) (v : List ℕ
   pub known : (n w : ℕ) → n < cells sh → w < sh .w → M n ≡ false → layer sh v w n ≡ layer sh xs w n
   pub missing : (n w : ℕ) → n < cells sh → w < sh .w → M n ≡ true → layer sh v w n ≡ 0
 
--- "its flags become 0, cells of K … keep flag 1": the flags after a filling. That they are valid where those before it were need not be said, it
--- follows (`flagged-valid`).
+-- The flags after a filling: "its flags become 0, cells of K … keep flag 1", and 2 is a flag "which filling treats as known and keeps" (request
+-- P5). That they are valid where those before the call were need not be said: it follows (`flagged-valid`).
 pub record Flagged (fs fs′ : List ℕ) : Type 0 where
   pub size : length fs′ ≡ length fs
   pub known : (n : ℕ) → missing fs n ≡ false → getD fs′ n 0 ≡ getD fs n 0

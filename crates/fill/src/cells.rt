@@ -1,4 +1,4 @@
-// Flags and cells. Within a call a cell that was filled has the private flag 3; 2 stays free.
+// Flags and cells. Within a call a cell that was filled has the private flag 3, above every flag of a caller.
 use shape::Shape;
 ghost use mathlib.Core.Path.{_≡_};
 ghost use lib.ListN.{length};

@@ -42,7 +42,8 @@ pub data AxisOutcome (r : ℕ) (sh : Shape) (axis : ℕ) (before after : List �
       axisChecked sh axis (length before) ≡ passes tt → Pass r sh axis before after →
       AxisOutcome r sh axis before after (gives tt)
 
--- The checks of the flags: 5 of all of them, then 15.
+-- The checks of the flags: 5 of all of them (request P5: "5 a flag above 2"), then 15. A flag 2 stands for a known cell, which is mended like any
+-- other.
 unfoldable pub wholeChecked : List ℕ → Checked Unit
 wholeChecked fs = check (flagsValid fs) 5 (check (noneMissing fs) 15 (passes tt))
 

@@ -1,4 +1,4 @@
--- Flags cell by cell: each is 0 or 1 where all are valid, and a cell is missing exactly where its flag is 1.
+-- Flags cell by cell: each is 0, 1 or 2 where all are valid, and a cell is missing exactly where its flag is 1.
 use mathlib.Core.Path.{_≡_, refl, ap}
 use mathlib.Core.Bool.{true, false, not}
 use mathlib.Core.List.{List, [], _∷_}
@@ -11,18 +11,18 @@ use lib.ListN.{length, getD}
 use Rattle.shape.specs.Flags.{missing, flagsValid, noneMissing}
 use Rattle.shape.proofs.Valid.{both-parts, both-true}
 
--- ---- flags 0 and 1
+-- ---- flags 0, 1 and 2
 
-pub valid-flag : (fs : List ℕ) → flagsValid fs ≡ true → (n : ℕ) → getD fs n 0 ≤ 1
+pub valid-flag : (fs : List ℕ) → flagsValid fs ≡ true → (n : ℕ) → getD fs n 0 ≤ 2
 unfolding flagsValid
 valid-flag [] e n = omega arith
-valid-flag (f ∷ fs) e zero = leb-true f 1 (both-parts (leb f 1) (flagsValid fs) e .0)
-valid-flag (f ∷ fs) e (suc n) = valid-flag fs (both-parts (leb f 1) (flagsValid fs) e .1) n
+valid-flag (f ∷ fs) e zero = leb-true f 2 (both-parts (leb f 2) (flagsValid fs) e .0)
+valid-flag (f ∷ fs) e (suc n) = valid-flag fs (both-parts (leb f 2) (flagsValid fs) e .1) n
 
-pub flags-valid : (fs : List ℕ) → ((n : ℕ) → n < length fs → getD fs n 0 ≤ 1) → flagsValid fs ≡ true
+pub flags-valid : (fs : List ℕ) → ((n : ℕ) → n < length fs → getD fs n 0 ≤ 2) → flagsValid fs ≡ true
 unfolding flagsValid
 flags-valid [] h = refl
-flags-valid (f ∷ fs) h = both-true (leb f 1) (flagsValid fs) (le-leb f 1 (h 0 (omega arith))) (flags-valid fs (λ n l. h (suc n) (omega arith)))
+flags-valid (f ∷ fs) h = both-true (leb f 2) (flagsValid fs) (le-leb f 2 (h 0 (omega arith))) (flags-valid fs (λ n l. h (suc n) (omega arith)))
 
 -- ---- no flag 1
 

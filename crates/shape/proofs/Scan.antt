@@ -1,14 +1,13 @@
--- A test of every element of a list, as a loop makes it that joins the elements by or: what was found and what is left to test decide.
+-- A test of every element of a list, as a loop makes it that joins by or what it finds: what was found and what is left to test decide.
 use mathlib.Core.Path.{_≡_, refl, sym, ap, _∙_}
 use mathlib.Core.Bool.{Bool, true, false, not}
 use mathlib.Core.Logic.{_⊎_, _≢_, inl, inr}
 use mathlib.Core.List.{List, [], _∷_}
 use Prim.Native.Nat.{ℕ, _+_, _≤_, _<_}
 use native.Mathlib.Numerals.{add-one}
-use native.Mathlib.Decide.{decLe}
 use native.Mathlib.Omega.{arith}
 use borrow.Author.Tests.{le-leb, lt-leb, ne-eqb}
-use lib.Bits.{bitOr, or-lt, or-add-and, or-zero-r, and-le-l, and-le-r}
+use lib.Bits.{bitOr, or-add-and, or-zero-r, and-le-l, and-le-r}
 use lib.Dec.{leb, eqb}
 use lib.ListN.{length, getD, drop, drop-of-length-le}
 use lib.Seq.{drop-cons}
@@ -32,24 +31,22 @@ both-false false = refl
 or-above : (a b : ℕ) → (a ≤ bitOr a b) × (b ≤ bitOr a b)
 or-above a b = (omega (arith, or-add-and a b, and-le-r a b), omega (arith, or-add-and a b, and-le-l a b))
 
--- two numbers joined by or are at most 1 exactly when both are
-pub or-le : (a b : ℕ) → leb (bitOr a b) 1 ≡ both (leb a 1) (leb b 1)
-unfolding both
-or-le a b =
-    elim (decLe a 1) [
-      | yes p ↦
-          elim (decLe b 1) [
-            | yes q ↦ let low : bitOr a b < 2 = or-lt 1 a b (omega arith) (omega arith) in rw (le-leb (bitOr a b) 1 (omega arith), le-leb a 1 p, le-leb b 1 q)
-            | no q ↦ rw (lt-leb (bitOr a b) 1 (omega (arith, or-above a b)), le-leb a 1 p, lt-leb b 1 (omega arith))
-          ]
-      | no p ↦ rw (lt-leb (bitOr a b) 1 (omega (arith, or-above a b)), lt-leb a 1 (omega arith))
-    ]
+-- a number joined with what a test gives, 1 where it found something and 0 where not, is 0 exactly when it is and nothing was found
+or-found : (any m : ℕ) → m ≡ 1 → eqb (bitOr any m) 0 ≡ both (eqb any 0) false
+or-found any m e = rw e (ne-eqb (bitOr any 1) 0 (λ z. omega (arith, or-above any 1)) ∙ sym (both-false (eqb any 0)))
 
--- a number joined with the mark of a flag is 0 exactly when it is and the flag is not 1
+or-clear : (any m : ℕ) → m ≡ 0 → eqb (bitOr any m) 0 ≡ both (eqb any 0) true
+or-clear any m e = rw (e, or-zero-r any) (sym (both-true (eqb any 0)))
+
+-- the test for a byte that is no flag
+pub or-high : (any flag m : ℕ) → ((2 < flag) × (m ≡ 1)) ⊎ ((flag ≤ 2) × (m ≡ 0)) → eqb (bitOr any m) 0 ≡ both (eqb any 0) (leb flag 2)
+or-high any flag m (inl (high, e)) = rw (lt-leb flag 2 high) (or-found any m e)
+or-high any flag m (inr (low, e)) = rw (le-leb flag 2 low) (or-clear any m e)
+
+-- the test for a missing cell
 pub or-mark : (any flag m : ℕ) → ((flag ≡ 1) × (m ≡ 1)) ⊎ ((flag ≢ 1) × (m ≡ 0)) → eqb (bitOr any m) 0 ≡ both (eqb any 0) (not (eqb flag 1))
-or-mark any flag m (inl (one, e)) =
-    rw (e, one) (ne-eqb (bitOr any 1) 0 (λ z. omega (arith, or-above any 1)) ∙ sym (both-false (eqb any 0)))
-or-mark any flag m (inr (other, e)) = rw (e, or-zero-r any, ne-eqb flag 1 other) (sym (both-true (eqb any 0)))
+or-mark any flag m (inl (one, e)) = rw one (or-found any m e)
+or-mark any flag m (inr (other, e)) = rw (ne-eqb flag 1 other) (or-clear any m e)
 
 module _ (every : List ℕ → Bool) (test : ℕ → Bool) (at-end : every [] ≡ true) (at-cons : (x : ℕ) (xs : List ℕ) → every (x ∷ xs) ≡ both (test x) (every xs)) where
   scan-one : (xs : List ℕ) (n : ℕ) → n < length xs → every (drop n xs) ≡ both (test (getD xs n 0)) (every (drop (n + 1) xs))

@@ -1,4 +1,4 @@
--- Flags (document 01, "Filling"): one byte a cell, 0 known, 1 missing.
+-- Flags (document 01, "Filling"): one byte a cell, 0 known, 1 missing. Request P5: "Flags gain 2, known and unsent".
 use mathlib.Core.Bool.{Bool, true, not}
 use mathlib.Core.List.{List, [], _∷_}
 use Prim.Native.Nat.{ℕ}
@@ -10,10 +10,10 @@ use Rattle.shape.specs.Shapes.{both}
 unfoldable pub missing : List ℕ → ℕ → Bool
 missing fs n = eqb (getD fs n 0) 1
 
--- every flag is 0 or 1
+-- every flag is 0, 1 or 2
 unfoldable pub flagsValid : List ℕ → Bool
 flagsValid [] = true
-flagsValid (f ∷ fs) = both (leb f 1) (flagsValid fs)
+flagsValid (f ∷ fs) = both (leb f 2) (flagsValid fs)
 
 -- no flag is 1
 unfoldable pub noneMissing : List ℕ → Bool
