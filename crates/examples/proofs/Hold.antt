@@ -1,5 +1,4 @@
--- The theorem: every one of document 01's starred examples holds. Its kind's test passes, which computes, and answers true only where the claim
--- holds.
+-- The theorem: every example of the list holds. Its kind's test passes, which computes, and answers true only where the claim holds.
 use mathlib.Core.Path.{_≡_, refl}
 use mathlib.Core.Bool.{Bool, true}
 use mathlib.Core.List.{List, [], _∷_}

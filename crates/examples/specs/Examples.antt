@@ -1,4 +1,4 @@
--- Document 01, "Checked examples": the starred ones as one list, each with what it claims of the definitions.
+-- Document 01, "Checked examples": the starred ones as one list, each with what it claims of the definitions. One of request P5 ends it.
 use mathlib.Core.Path.{_≡_}
 use mathlib.Core.Bool.{Bool}
 use mathlib.Core.List.{List, [], _∷_, _++_}
@@ -90,7 +90,7 @@ lastKnown = made 2 2 2 0x01 (replicate 27 0xFF)
 unfoldable pub lastKnownFlags : List ℕ
 lastKnownFlags = made 2 2 2 0 (replicate 27 1)
 
--- The list, in document 01's order.
+-- The list, in document 01's order, then request P5's.
 unfoldable pub examples : List Example
 examples =
     -- "02h × 80h = C3h."
@@ -116,4 +116,6 @@ examples =
     -- "The first cube again as listed, but (1,1,1) made 00h, none missing: mending restores 0Fh."
     mends smallest (made 1 1 1 0x00 planes) (replicate 27 0) (replicate 27 0xFF) planes (gives tt) ∷
     -- "Length 3, sums 01h and 08h: j = 3, unmended."
-    no-place 0x01 0x08 3 3 ∷ []
+    no-place 0x01 0x08 3 3 ∷
+    -- "Flags gain 2, known and unsent, which filling treats as known and keeps.": the filling above, its known cell unsent
+    fills smallest lastKnown (made 2 2 2 2 lastKnownFlags) planes (made 2 2 2 2 (replicate 27 0)) (gives (left 0)) ∷ []
