@@ -1,7 +1,7 @@
 -- Why the crate `fill` meets its contracts.
 -- Clearing: cells made 00h one after the other.
 mod Clearing
--- Marks: the count of missing cells as marks are given a value.
+-- Marks: the count of missing cells as marks become 0.
 mod Marks
 -- Lines: a line of the cube as a run of bytes, whether it is right, and what holds of every line of an axis.
 mod Lines

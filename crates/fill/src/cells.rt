@@ -31,10 +31,11 @@ pub(crate) fn settle(flags: &mut [u8]) -> usize
     let mut left = 0;
     let mut n = 0;
     while n < flags.len() {
-        if flags[n] == 3 {
+        let flag = flags[n];
+        if flag == 3 {
             flags[n] = 0;
         }
-        if flags[n] == 1 {
+        if flag == 1 {
             left += 1;
         }
         n += 1;

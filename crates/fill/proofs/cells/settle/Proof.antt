@@ -1,5 +1,5 @@
 -- `fill::cells::settle` makes filled cells known and counts the missing ones.
-use mathlib.Core.Path.{_≡_, sym, _∙_}
+use mathlib.Core.Path.{_≡_, sym}
 use mathlib.Core.Logic.{_≢_, _⊎_, inl, inr, ⊎-elim}
 use Prim.Native.Nat.{_+_, _-_, _≤_}
 use native.Mathlib.Omega.{arith}
@@ -9,7 +9,7 @@ use Rattle.stopping.specs.Stopping.{number}
 use Rattle.stopping.proofs.Number.{number-nil, number-le}
 use Rattle.shape.specs.Flags.{missing}
 use Rattle.shape.proofs.Marks.{RemarkedTo, remarked-none, remarked-turn, remarked-all}
-use Rattle.fill.proofs.Marks.{count-turn, missing-in, missing-out}
+use Rattle.fill.proofs.Marks.{counted-in, counted-out}
 use Rattle.fill.proofs.cells.settle.Statement.{statement}
 use Rattle.fill.proofs.cells.settle.Tie as tie
 
@@ -33,25 +33,17 @@ turned :
     RemarkedTo 0 (c .before .before .before .loop .n + 1) (now (c .before .before .before .before .args .flags)) (c .if1 .flags)
 turned c = remarked-turn 0 _ _ _ _ (c .before .before .before .loop .inv .1) (omega arith) (turn c)
 
-counted :
-    (c : tie.Joined1 Inv-loop μ-loop) →
-    number (missing (c .if1 .flags)) (c .before .before .before .loop .n) ≡ c .before .before .before .loop .left
-counted c = count-turn 0 _ _ _ (turn c) ∙ sym (c .before .before .before .loop .inv .2)
-
 loop-holds : tie.Need-loop-holds Inv-loop μ-loop
 loop-holds c = (omega arith, remarked-none 0 _, sym (number-nil _))
 
-slice-read-if1 : tie.Need-slice-read-if1 Inv-loop μ-loop
-slice-read-if1 c = omega arith
+slice-read-flag : tie.Need-slice-read-flag Inv-loop μ-loop
+slice-read-flag c = omega arith
 
 slice-write-flags : tie.Need-slice-write-flags Inv-loop μ-loop
 slice-write-flags c = omega arith
 
-slice-read-if2 : tie.Need-slice-read-if2 Inv-loop μ-loop
-slice-read-if2 c = omega (arith, turned (c .before) .size)
-
 add-left : tie.Need-add-left Inv-loop μ-loop
-add-left c = omega (arith, number-le (missing (c .before .before .before .before .before .loop .flags)) (c .before .before .before .before .before .loop .n))
+add-left c = omega (arith, number-le (missing (c .before .before .before .before .loop .flags)) (c .before .before .before .before .loop .n))
 
 add-n : tie.Need-add-n Inv-loop μ-loop
 add-n c = omega arith
@@ -62,9 +54,9 @@ loop-less c = omega arith
 loop-again : tie.Need-loop-again Inv-loop μ-loop
 loop-again c = (
   omega arith,
-  turned (c .before .before),
-  ⊎-elim (λ w. omega (arith, counted (c .before .before), missing-in (c .before .before .if1 .flags) _ (w .0 .taken)))
-      (λ w. omega (arith, counted (c .before .before), missing-out (c .before .before .if1 .flags) _ (w .0 .left))) (c .if2 .came),
+  turned (c .before),
+  ⊎-elim (λ w. omega (arith, w .1, counted-in _ _ _ (turn (c .before)) (w .0 .taken)))
+      (λ w. omega (arith, w .1, counted-out _ _ _ (turn (c .before)) (omega arith) (w .0 .left))) (c .if2 .came),
 )
 
 same-length : tie.Need-same-length Inv-loop μ-loop
@@ -82,9 +74,8 @@ settle-spec =
     Inv-loop
     μ-loop
     loop-holds
-    slice-read-if1
+    slice-read-flag
     slice-write-flags
-    slice-read-if2
     add-left
     add-n
     loop-less
