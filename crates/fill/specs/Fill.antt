@@ -57,7 +57,7 @@ pub record Flagged (fs fs′ : List ℕ) : Type 0 where
   pub known : (n : ℕ) → missing fs n ≡ false → getD fs′ n 0 ≡ getD fs n 0
   pub filled : (n : ℕ) → missing fs n ≡ true → missing fs′ n ≡ false → getD fs′ n 0 ≡ 0
 
--- What `fill` answers and leaves. The flags afterwards are K; on 13 K is only shown to exist, and the flags are as before.
+-- What `fill` answers and leaves. The cells missing afterwards are K; on 13 K is only shown to exist, and the flags are as before.
 pub data FillOutcome (r : ℕ) (sh : Shape) (xs fs xs′ fs′ : List ℕ) : Value CellsLeft → Type 0 where
   -- "Numbers 1 to 11 and 15 change no lent byte"
   fill-refused :
