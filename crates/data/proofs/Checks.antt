@@ -10,7 +10,7 @@ use Rattle.shape.specs.declared.Shape.{Shape}
 use Rattle.shape.specs.declared.Sizes.{Sizes}
 use Rattle.shape.specs.Shapes.{Valid, cells, capacity, sizes, shapeChecked}
 use Rattle.shape.proofs.Valid.{both-parts, both-true, shape-passed, valid-passes}
-use Rattle.data.specs.Calls.{slicesChecked, cubeChecked, readChecked}
+use Rattle.data.specs.Calls.{slicesChecked, cubeChecked, readChecked, writeChecked}
 
 -- a test of the sizes that passes is one of the sizes of a valid shape
 sizes-passed : (sh : Shape) (test : Sizes → Bool) → _≡_ {A = Checked Unit} (andThen (shapeChecked sh) (λ z. check (test z) 4 (passes tt))) (passes tt)
@@ -68,3 +68,7 @@ pub read-done-checked : (sh : Shape) (bytes room from to n : ℕ) → Valid sh �
 unfolding readChecked sizes andThen check
 read-done-checked sh bytes room from to n v e l m =
     rw (valid-passes sh v, eq-eqb bytes (sh .w * cells sh) e, le-leb (from + n) (capacity sh) l, le-leb (to + n) room m)
+
+pub write-done-checked : (sh : Shape) (bytes room from to n : ℕ) → Valid sh → bytes ≡ sh .w * cells sh → to + n ≤ capacity sh → from + n ≤ room
+    → writeChecked sh bytes room from to n ≡ passes tt
+write-done-checked sh bytes room from to n v e l m = read-done-checked sh bytes room to from n v e l m

@@ -6,6 +6,7 @@ use native.Mathlib.Nat.{mul-comm, mul-assoc, mul-left-comm, add-mul, mod-lt, div
 use native.Mathlib.Omega.{arith}
 use lib.Arith.{digits-lt, digits-div, digits-mod}
 use lib.ListN.{length, getD}
+use lib.Seq.{ext-getD}
 use Rattle.shape.specs.declared.Shape.{Shape}
 use Rattle.shape.specs.Shapes.{Valid, cells, capacity, cell}
 use Rattle.shape.proofs.Geometry.{cell-lt-cells, first-coordinate, second-coordinate, third-coordinate}
@@ -18,8 +19,15 @@ use Rattle.data.proofs.Cells.{inner, data-unique}
 row-byte : (n w y : ℕ) → (y / w + n) * w + y % w ≡ n * w + y
 row-byte n w y = omega (arith, add-mul (y / w) n w, div-add-mod' y w)
 
-row-start : (row m w : ℕ) → row * (m * w) ≡ m * row * w
+pub row-start : (row m w : ℕ) → row * (m * w) ≡ m * row * w
 row-start row m w = simp (mul-assoc, mul-left-comm)
+
+-- byte w of data cell (a,b,c) is one of the data string
+pub data-byte-lt : (sh : Shape) (a b c w : ℕ) → a < sh .l1 - 2 → b < sh .l2 - 2 → c < sh .l3 - 2 → w < sh .w
+    → (a + (sh .l1 - 2) * (b + (sh .l2 - 2) * c)) * sh .w + w < capacity sh
+unfolding inner cell cells capacity
+data-byte-lt sh a b c w la lb lc lw =
+    rw (mul-comm (sh .w) (cells (inner sh))) (digits-lt (cell-lt-cells (inner sh) a b c la lb lc) lw)
 
 module _ (sh : Shape) (xs : List ℕ) where
   -- byte w of data cell (a,b,c)
@@ -42,6 +50,12 @@ module _ (sh : Shape) (xs : List ℕ) where
   unfolding heldData
   heldData-at q l = getD-tabulate (capacity sh) (dataOf sh xs) 0 q l
 
+  -- a list of the right length that has its bytes
+  pub heldData-is : (ds : List ℕ) → length ds ≡ capacity sh → ((q : ℕ) → q < capacity sh → dataOf sh xs q ≡ getD ds q 0) → heldData sh xs ≡ ds
+  heldData-is ds size same =
+      ext-getD 0 (heldData sh xs) ds (length-heldData ∙ sym size)
+      (λ q l. let less : q < capacity sh = omega (arith, length-heldData) in heldData-at q less ∙ same q less)
+
   -- it is what the data cells hold, and nothing else is
   pub heldData-holds : HoldsData sh xs (heldData sh xs)
   unfolding inner cell cells capacity
@@ -49,8 +63,7 @@ module _ (sh : Shape) (xs : List ℕ) where
       record {
         size = length-heldData;
         bytes = λ a b c w la lb lc lw.
-            heldData-at (cell (inner sh) a b c * sh .w + w)
-            (rw (mul-comm (sh .w) (cells (inner sh))) (digits-lt (cell-lt-cells (inner sh) a b c la lb lc) lw))
+            heldData-at (cell (inner sh) a b c * sh .w + w) (data-byte-lt sh a b c w la lb lc lw)
             ∙ dataOf-cell a b c w la lb lw;
       }
 

@@ -28,3 +28,11 @@ dataOf sh xs q =
 -- the data string that a cube holds
 unfoldable pub heldData : Shape → List ℕ → List ℕ
 heldData sh xs = tabulate (capacity sh) (dataOf sh xs)
+
+-- What a change of the data string alone leaves of a cube: its length, and every byte of every cell (a,b,c) that is no data cell.
+pub record ParityKept (sh : Shape) (before after : List ℕ) : Type 0 where
+  pub size : length after ≡ length before
+  pub bytes :
+      (a b c w : ℕ) → a < sh .l1 → b < sh .l2 → c < sh .l3 → w < sh .w →
+      ((a < sh .l1 - 2) × (b < sh .l2 - 2) × (c < sh .l3 - 2) → ⊥) →
+      layer sh after w (cell sh a b c) ≡ layer sh before w (cell sh a b c)

@@ -1,2 +1,2 @@
 -- What the crate's own functions promise each other.
-pub mod Reader
+pub mod Place

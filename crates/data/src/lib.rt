@@ -1,5 +1,7 @@
-// The data string of a cube: one reader, row by row of data cells.
+// The data string of a cube: one reader and one writer, row by row of data cells.
+mod place;
 mod reader;
+mod writer;
 
 use answer::Answer;
 use answer::Fault;
@@ -8,7 +10,7 @@ use shape::Measured;
 use shape::Shape;
 ghost use mathlib.Core.Path.{_≡_};
 ghost use Rattle.answer.specs.Values.{answerValue, checked};
-ghost use Rattle.data.specs.Calls.{slicesChecked, readChecked, zeroValue, ExtractOutcome, ReadOutcome, ZeroOutcome};
+ghost use Rattle.data.specs.Calls.{slicesChecked, readChecked, zeroValue, ExtractOutcome, ReadOutcome, ZeroOutcome, WriteOutcome, SetOutcome};
 
 // What a test of the data string answers: whether it is 00h.
 pub enum DataCheck {
@@ -56,6 +58,42 @@ pub fn is_data_zero(cube: &[u8], sh: Shape, from: usize) -> DataCheck
     }
 }
 
+// Copies n bytes of `src` from `from` on to the data string from byte `to` on, and keeps every other byte of the cube. Where the data string
+// has no n bytes there, or `src` has none from `from` on, the refusal is 4 too.
+pub fn write_data(
+    src: &[u8],
+    cube: &mut [u8],
+    sh: Shape,
+    from: usize,
+    to: usize,
+    n: usize,
+) -> Answer
+    ensures { λ r. ⌜ WriteOutcome sh (now (src .entry)) from to n (now (cube .entry)) (now (cube .exit)) (answerValue r) ⌝ }
+{
+    let answer = spans_fit(sh, cube.len(), src.len(), to, from, n);
+    let Answer::Done = answer else {
+        return answer;
+    };
+    writer::put_data(src, cube, sh, from, to, n);
+    Answer::Done
+}
+
+// Makes every byte of the data string from byte `from` on `value`, and keeps every other byte of the cube.
+pub fn set_data(cube: &mut [u8], sh: Shape, from: usize, value: u8) -> Answer
+    ensures { λ r. ⌜ SetOutcome sh from value (now (cube .entry)) (now (cube .exit)) (answerValue r) ⌝ }
+{
+    match shape::measure(sh) {
+        Measured::Refused(f) => Answer::Refused(f),
+        Measured::Fits(z) => {
+            if cube.len() != z.bytes {
+                return Answer::Refused(Refusal::Plain(Fault::SliceLength));
+            }
+            writer::set_from(cube, sh, from, z.capacity, value);
+            Answer::Done
+        }
+    }
+}
+
 // The checks 1 to 4 of a call that is lent a data string and a cube.
 pub fn slices_fit(sh: Shape, capacity: usize, bytes: usize) -> Answer
     ensures { λ r. ⌜ answerValue r ≡ checked (slicesChecked sh capacity bytes) ⌝ }
@@ -72,7 +110,7 @@ pub fn slices_fit(sh: Shape, capacity: usize, bytes: usize) -> Answer
     }
 }
 
-// The checks of a call that reads n bytes of the data string from `from` on into `room` bytes from `to` on.
+// The checks of a call that copies n bytes between the data string, from `from` on, and a slice of `room` bytes, from `to` on.
 fn spans_fit(sh: Shape, bytes: usize, room: usize, from: usize, to: usize, n: usize) -> Answer
     ensures { λ r. ⌜ answerValue r ≡ checked (readChecked sh bytes room from to n) ⌝ }
 {

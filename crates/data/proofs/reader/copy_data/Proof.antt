@@ -7,8 +7,9 @@ use borrow.Author.Needs.{needs}
 use Rattle.span.specs.Span.{Copied}
 use Rattle.span.proofs.Copying.{copied-none}
 use Rattle.data.specs.Data.{heldData}
-use Rattle.data.specs.Inner.Reader.{Standing}
-use Rattle.data.proofs.Reading.{standing-same, standing-inside, smaller-pos, read-more}
+use Rattle.data.specs.Inner.Place.{Standing}
+use Rattle.data.proofs.Placing.{standing-same, standing-inside, smaller-pos}
+use Rattle.data.proofs.Reading.{read-more}
 use Rattle.data.proofs.reader.copy_data.Statement.{statement}
 use Rattle.data.proofs.reader.copy_data.Tie as tie
 

@@ -7,8 +7,9 @@ use borrow.Author.Needs.{needs}
 use borrow.Author.Tests.{not-true, not-false}
 use Rattle.shape.specs.Shapes.{cells, capacity}
 use Rattle.data.specs.Data.{dataOf}
-use Rattle.data.specs.Inner.Reader.{Standing}
-use Rattle.data.proofs.Reading.{standing-end, standing-inside, zero-more, zero-stretch}
+use Rattle.data.specs.Inner.Place.{Standing}
+use Rattle.data.proofs.Placing.{standing-end, standing-inside}
+use Rattle.data.proofs.Reading.{zero-more, zero-stretch}
 use Rattle.data.proofs.reader.zero_from.Statement.{statement}
 use Rattle.data.proofs.reader.zero_from.Tie as tie
 

@@ -1,8 +1,8 @@
--- What the reader of the data string promises.
+-- Where a stretch of the data string stands in a cube.
 use mathlib.Core.Path.{_≡_}
 use Prim.Native.Nat.{ℕ, _+_, _-_, _*_, _<_}
 use Rattle.shape.specs.declared.Shape.{Shape}
-use Rattle.data.specs.declared.reader.Stretch.{Stretch}
+use Rattle.data.specs.declared.place.Stretch.{Stretch}
 
 -- Byte q of the data string stands at s .at: byte y of the data row (b,c), of which s .len bytes are left.
 pub record Standing (sh : Shape) (q : ℕ) (s : Stretch) : Type 0 where

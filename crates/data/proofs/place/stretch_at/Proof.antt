@@ -1,12 +1,12 @@
--- `data::reader::stretch_at` takes byte q apart by the rows and the planes. Assumes nothing.
+-- `data::place::stretch_at` takes byte q apart by the rows and the planes. Assumes nothing.
 use Prim.Native.Nat.{_*_, _-_, _/_, _%_, _<_}
 use native.Mathlib.Nat.{mod-lt}
 use native.Mathlib.Omega.{arith}
 use borrow.Author.Needs.{needs}
 use Rattle.shape.proofs.Bounds.{small}
-use Rattle.data.proofs.Reading.{width-pos, Reach, reach, standing-at}
-use Rattle.data.proofs.reader.stretch_at.Statement.{statement}
-use Rattle.data.proofs.reader.stretch_at.Tie as tie
+use Rattle.data.proofs.Placing.{width-pos, Reach, reach, standing-at}
+use Rattle.data.proofs.place.stretch_at.Statement.{statement}
+use Rattle.data.proofs.place.stretch_at.Tie as tie
 
 reached : (s : tie.Start) → let sh = s .args .sh in
     Reach sh (s .args .q / ((sh .l1 - 2) * sh .w) % (sh .l2 - 2)) (s .args .q / ((sh .l1 - 2) * sh .w) / (sh .l2 - 2))

@@ -1,10 +1,10 @@
--- `data::reader::next_row` steps over the parity cells of a row, and over the parity rows of a plane. Assumes nothing.
+-- `data::place::next_row` steps over the parity cells of a row, and over the parity rows of a plane. Assumes nothing.
 use native.Mathlib.Omega.{arith}
 use borrow.Author.Needs.{needs}
 use Rattle.shape.proofs.Bounds.{Small, small}
-use Rattle.data.proofs.Reading.{standing-beside, standing-below}
-use Rattle.data.proofs.reader.next_row.Statement.{statement}
-use Rattle.data.proofs.reader.next_row.Tie as tie
+use Rattle.data.proofs.Placing.{standing-beside, standing-below}
+use Rattle.data.proofs.place.next_row.Statement.{statement}
+use Rattle.data.proofs.place.next_row.Tie as tie
 
 sizes : (s : tie.Start) → Small (s .args .sh)
 sizes s = small (s .args .sh) (s .pre .0)
