@@ -172,3 +172,27 @@ across-off m n len w k b cells less a b′ c t l less′ h ne i =
           | yes below ↦ let rows = stretch-end b′ b (m * w) below in inl (omega (arith, spot-row m w a b′ t l h))
           | no past ↦ let rows = stretch-end b b′ (m * w) (omega arith) in inr (omega (arith, spot-low m w a b′ t))
         ]
+
+module _ (r m n len w k b : ℕ) (before after : List ℕ) (inside : Inside (acrossRun m n len w k b) (length before))
+    (solved : Solved r (acrossRun m n len w k b) (len - 2) (len - 1) before after) where
+  pub across-codeword : Primitive r → 2 ≤ len → (a t : ℕ) → a < k → t < w → Codeword r (λ c. getD after (c * (m * n * w) + spot m w a b t) 0) len
+  unfolding acrossRun
+  across-codeword prim low a t l h =
+      codeword-cong r _ _ len (λ c j. across-byte m n len w k b after a t c)
+      (solved-codewords r (acrossRun m n len w k b) (len - 2) (len - 1) before after prim inside solved (omega arith) (omega arith) (a * w + t)
+      (omega (arith, stretch-end a k w l)))
+
+  pub across-kept : (a c t : ℕ) → a < k → c < len - 2 → t < w
+      → getD after (c * (m * n * w) + spot m w a b t) 0 ≡ getD before (c * (m * n * w) + spot m w a b t) 0
+  unfolding acrossRun
+  across-kept a c t l j h =
+      sym (across-byte m n len w k b after a t c)
+      ∙ data-kept r (acrossRun m n len w k b) before after (inside .apart) solved (a * w + t) c (omega (arith, stretch-end a k w l)) j
+      ∙ across-byte m n len w k b before a t c
+
+  -- no other row is written
+  pub across-other : k ≤ m → b < n → (a b′ c t : ℕ) → a < m → b′ < n → t < w → (b′ ≡ b → ⊥)
+      → getD after (c * (m * n * w) + spot m w a b′ t) 0 ≡ getD before (c * (m * n * w) + spot m w a b′ t) 0
+  across-other cells less a b′ c t l less′ h ne =
+      let off = across-off m n len w k b cells less a b′ c t l less′ h ne in
+      solved .kept _ (off (len - 2)) (off (len - 1))

@@ -12,15 +12,16 @@ use Rattle.line.specs.declared.Run.{Run}
 use Rattle.line.specs.Line.{Codeword}
 use Rattle.line.specs.Run.{Inside, Feeds, Encoded}
 use Rattle.line.proofs.Codeword.{codeword-cong}
-use Rattle.line.proofs.Runs.{encoded-placed, encoded-codewords}
+use Rattle.line.proofs.Runs.{Solved, encoded-placed, encoded-codewords}
 use Rattle.shape.specs.declared.Shape.{Shape}
 use Rattle.shape.specs.Shapes.{Valid, cells, capacity, cell, IsLine, along, axis1, axis2, axis3}
-use Rattle.data.specs.Data.{layer, HoldsData}
+use Rattle.data.specs.Data.{layer, HoldsData, heldData}
+use Rattle.data.proofs.HeldData.{heldData-holds}
 use Rattle.cube.specs.Cube.{layerLine, CodeCube}
-use Rattle.cube.specs.Inner.Encoder.{spot, planeBytes, RowsEncoded, PlanesCoded}
+use Rattle.cube.specs.Inner.Encoder.{spot, planeBytes, RowsEncoded, AcrossCompleted, PlanesCoded}
 use Rattle.shape.proofs.Geometry.{axis1-cell, axis2-cell, axis3-cell}
 use Rattle.cube.proofs.Bytes.{planes-in-cube, cell-byte, planes-fill}
-use Rattle.cube.proofs.Completing.{acrossRun, across-inside, across-byte, across-off}
+use Rattle.cube.proofs.Completing.{acrossRun, across-inside, across-byte, across-off, across-codeword, across-kept, across-other}
 use Rattle.cube.proofs.Parity.{crossing}
 
 -- ---- the data rows
@@ -94,13 +95,57 @@ module _ (r : ℕ) (sh : Shape) (n : ℕ) (ds before after : List ℕ) (less : n
         ];
       }
 
--- ---- the cube
-
 -- byte t of cell (a, b, c)
 layer-byte : (sh : Shape) (xs : List ℕ) (a b c t : ℕ)
     → layer sh xs t (cell sh a b c) ≡ getD xs (c * planeBytes sh + spot (sh .l1) (sh .w) a b t) 0
 unfolding layer cell
 layer-byte sh xs a b c t = ap (λ (p : ℕ). getD xs p 0) (cell-byte (sh .l1) (sh .l2) (sh .w) a b c t)
+
+-- ---- the data rows completed in place
+
+pub across-completed-none : (r : ℕ) (sh : Shape) (xs : List ℕ) → AcrossCompleted r sh 0 xs xs
+across-completed-none r sh xs = record { lines = λ a b t l k h. absurd (omega arith); kept = λ a b c t l k m h. refl }
+
+-- one more row
+pub across-completed-more : (r : ℕ) (sh : Shape) (n : ℕ) (start before after : List ℕ) → Primitive r → n < sh .l2 - 2 → 2 ≤ sh .l3
+    → AcrossCompleted r sh n start before → Inside (rowsTo sh n) (length before) → Solved r (rowsTo sh n) (sh .l3 - 2) (sh .l3 - 1) before after
+    → AcrossCompleted r sh (n + 1) start after
+unfolding rowsTo
+across-completed-more r sh n start before after prim less low done inside solved =
+    record {
+      lines = λ a b t l k h. elim (ℕ-discrete b n) [
+        | yes e ↦ rw e (across-codeword r (sh .l1) (sh .l2) (sh .l3) (sh .w) (sh .l1 - 2) n before after inside solved prim low a t l h)
+        | no ne ↦
+            codeword-cong r _ _ (sh .l3) (λ c m. sym (other a b c t l (omega arith) h ne)) (done .lines a b t l (omega arith) h)
+      ];
+      kept = λ a b c t l k m h. elim (ℕ-discrete b n) [
+        | yes e ↦
+            rw e
+            (across-kept r (sh .l1) (sh .l2) (sh .l3) (sh .w) (sh .l1 - 2) n before after inside solved a c t l m h ∙ done .kept a n c t l less m h)
+        | no ne ↦ other a b c t l k h ne ∙ done .kept a b c t l k m h
+      ];
+    }
+  where
+    other : (a b c t : ℕ) → a < sh .l1 - 2 → b < sh .l2 - 2 → t < sh .w → (b ≡ n → ⊥)
+        → getD after (c * planeBytes sh + spot (sh .l1) (sh .w) a b t) 0 ≡ getD before (c * planeBytes sh + spot (sh .l1) (sh .w) a b t) 0
+    other a b c t l k h ne =
+        across-other r (sh .l1) (sh .l2) (sh .l3) (sh .w) (sh .l1 - 2) n before after inside solved (omega arith) (omega arith) a b c t (omega arith)
+        (omega arith) h ne
+
+-- all rows: the data string is the one that stood in the cube
+pub across-encoded : (r : ℕ) (sh : Shape) (before after : List ℕ) → AcrossCompleted r sh (sh .l2 - 2) before after
+    → RowsEncoded r sh (sh .l2 - 2) (heldData sh before) after
+across-encoded r sh before after done =
+    record {
+      lines = done .lines;
+      holds = λ a b c t l k m h.
+          ap (λ (p : ℕ). getD (heldData sh before) p 0) (sym (cell-byte (sh .l1 - 2) (sh .l2 - 2) (sh .w) a b c t))
+          ∙ heldData-holds sh before .bytes a b c t l k m h
+          ∙ layer-byte sh before a b c t
+          ∙ sym (done .kept a b c t l k m h);
+    }
+
+-- ---- the cube
 
 module _ (r : ℕ) (prim : Primitive r) (sh : Shape) (v : Valid sh) (ds before after : List ℕ) (bytes : (p : ℕ) → getD after p 0 < 256)
     (rows : RowsEncoded r sh (sh .l2 - 2) ds before) (planes : PlanesCoded r sh (sh .l3) before after) where

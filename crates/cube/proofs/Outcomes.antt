@@ -13,14 +13,14 @@ use Rattle.answer.proofs.Values.{fails-injective, passes-fails, answer-failed}
 use Rattle.field.specs.Field.{Primitive}
 use Rattle.shape.specs.declared.Shape.{Shape}
 use Rattle.cube.specs.declared.CubeCheck.the-variants.{Refused as NotChecked}
-use Rattle.data.specs.Data.{HoldsData}
+use Rattle.data.specs.Data.{HoldsData, heldData}
 use Rattle.cube.specs.Cube.{CodeCube}
 use Rattle.cube.specs.Encoded.{encoded}
 use Rattle.cube.specs.Theorems.{OnlyCodeCube, OneCodeCube}
 use Rattle.span.specs.Decision.{Decides}
 use Rattle.span.proofs.Decision.{decides-same}
 use Rattle.data.specs.Calls.{slicesChecked, cubeChecked}
-use Rattle.cube.specs.Calls.{EncodeOutcome, encode-refused, encode-done, checkValue, CheckOutcome, check-refused, check-done}
+use Rattle.cube.specs.Calls.{EncodeOutcome, encode-refused, encode-done, CompleteOutcome, complete-refused, complete-done, checkValue, CheckOutcome, check-refused, check-done}
 use Rattle.data.proofs.Checks.{checked-done}
 use Rattle.cube.proofs.Existence.{one-code-cube}
 
@@ -33,6 +33,13 @@ module _ (sh : Shape) (answer : Answer) where
   encode-unfit r f ds xs e p =
       let (n, failed, value) = answer-failed {B = Unit} answer _ f e p in
       rw (p, value) (encode-refused n failed refl)
+
+  pub complete-unfit : (r : ℕ) (f : Refusal) (xs : List ℕ) → answerValue answer ≡ checked (cubeChecked sh (length xs)) → answer ≡ Refused f
+      → CompleteOutcome r sh xs xs (answerValue answer)
+  unfolding answerValue
+  complete-unfit r f xs e p =
+      let (n, failed, value) = answer-failed {B = Unit} answer _ f e p in
+      rw (p, value) (complete-refused n failed refl)
 
   pub check-unfit : (r : ℕ) (f : Refusal) (xs : List ℕ) → answerValue answer ≡ checked (cubeChecked sh (length xs)) → answer ≡ Refused f
       → CheckOutcome r sh xs (checkValue (NotChecked f))
@@ -63,6 +70,11 @@ pub encode-works : {r : ℕ} {sh : Shape} {ds before after : List ℕ} {v : Valu
 encode-works e (encode-refused n f kept) = absurd (passes-fails tt n (sym e ∙ f))
 encode-works e (encode-done checks same) = (refl, same)
 
+pub complete-works : {r : ℕ} {sh : Shape} {before after : List ℕ} {v : Value Unit} → cubeChecked sh (length before) ≡ passes tt
+    → CompleteOutcome r sh before after v → (v ≡ gives tt) × (after ≡ encoded r sh (heldData sh before))
+complete-works e (complete-refused n f kept) = absurd (passes-fails tt n (sym e ∙ f))
+complete-works e (complete-done checks same) = (refl, same)
+
 pub check-decides : (r : ℕ) (sh : Shape) (xs : List ℕ) (b : Bool) → CheckOutcome r sh xs (gives b) → Decides (CodeCube r sh xs) b
 check-decides r sh xs b (check-done _ checks d) = d
 
@@ -74,6 +86,13 @@ encode-determined (encode-refused n e kept) (encode-refused m f kept′) = (ap r
 encode-determined (encode-refused n e kept) (encode-done f same) = absurd (passes-fails tt n (sym f ∙ e))
 encode-determined (encode-done e same) (encode-refused n f kept) = absurd (passes-fails tt n (sym e ∙ f))
 encode-determined (encode-done e same) (encode-done f same′) = (refl, same ∙ sym same′)
+
+pub complete-determined : {r : ℕ} {sh : Shape} {before after after′ : List ℕ} {v v′ : Value Unit}
+    → CompleteOutcome r sh before after v → CompleteOutcome r sh before after′ v′ → (v ≡ v′) × (after ≡ after′)
+complete-determined (complete-refused n e kept) (complete-refused m f kept′) = (ap refused (fails-injective n m (sym e ∙ f)), kept ∙ sym kept′)
+complete-determined (complete-refused n e kept) (complete-done f same) = absurd (passes-fails tt n (sym f ∙ e))
+complete-determined (complete-done e same) (complete-refused n f kept) = absurd (passes-fails tt n (sym e ∙ f))
+complete-determined (complete-done e same) (complete-done f same′) = (refl, same ∙ sym same′)
 
 pub check-determined : {r : ℕ} {sh : Shape} {xs : List ℕ} {v v′ : Value Bool} → CheckOutcome r sh xs v → CheckOutcome r sh xs v′ → v ≡ v′
 check-determined (check-refused n e) (check-refused m f) = ap refused (fails-injective n m (sym e ∙ f))

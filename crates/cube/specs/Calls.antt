@@ -7,6 +7,7 @@ use lib.ListN.{length}
 use Rattle.answer.specs.Values.{Value, gives, refused, passes, fails, refusal}
 use Rattle.shape.specs.declared.Shape.{Shape}
 use Rattle.data.specs.Calls.{slicesChecked, cubeChecked}
+use Rattle.data.specs.Data.{heldData}
 use Rattle.cube.specs.declared.CubeCheck.{CubeCheck}
 use Rattle.cube.specs.declared.CubeCheck.the-variants.{Code, Refused}
 use Rattle.cube.specs.Cube.{CodeCube}
@@ -21,6 +22,15 @@ pub data EncodeOutcome (r : ℕ) (sh : Shape) (ds before after : List ℕ) : Val
   encode-done :
       slicesChecked sh (length ds) (length before) ≡ passes tt → after ≡ encoded r sh ds →
       EncodeOutcome r sh ds before after (gives tt)
+
+-- `complete`: the cube becomes the one code cube that has the data of its data cells, whatever stood in the others. A refusal changes no byte.
+pub data CompleteOutcome (r : ℕ) (sh : Shape) (before after : List ℕ) : Value Unit → Type 0 where
+  complete-refused :
+      (n : ℕ) → cubeChecked sh (length before) ≡ fails n → after ≡ before →
+      CompleteOutcome r sh before after (refused n)
+  complete-done :
+      cubeChecked sh (length before) ≡ passes tt → after ≡ encoded r sh (heldData sh before) →
+      CompleteOutcome r sh before after (gives tt)
 
 -- what `is_code_cube` answers
 unfoldable pub checkValue : CubeCheck → Value Bool

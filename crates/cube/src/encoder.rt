@@ -6,8 +6,9 @@ ghost use Prim.Native.Nat.{_-_, _*_};
 ghost use lib.ListN.{length, getD};
 ghost use Rattle.field.specs.Field.{Primitive};
 ghost use Rattle.shape.specs.Shapes.{Valid, cells, capacity};
+ghost use Rattle.data.specs.Data.{heldData};
 ghost use Rattle.cube.specs.Encoded.{encoded};
-ghost use Rattle.cube.specs.Inner.Encoder.{planeBytes, RowsCompleted, PlaneCode, PlanesCoded, RowsEncoded};
+ghost use Rattle.cube.specs.Inner.Encoder.{planeBytes, RowsCompleted, PlaneCode, PlanesCoded, RowsEncoded, AcrossCompleted};
 
 // Writes the code cube of a data string, both of their exact lengths.
 pub(crate) fn encode_cube(data: &[u8], cube: &mut [u8], reduction: u8, sh: Shape)
@@ -15,6 +16,15 @@ pub(crate) fn encode_cube(data: &[u8], cube: &mut [u8], reduction: u8, sh: Shape
     ensures { λ r. ⌜ now (cube .exit) ≡ encoded reduction sh (now («data» .entry)) ⌝ }
 {
     encode_rows(data, cube, reduction, sh);
+    encode_planes(cube, reduction, sh);
+}
+
+// Writes the parity of the data that stands in the cube: the same, but for the data rows, which stay where they are.
+pub(crate) fn complete_cube(cube: &mut [u8], reduction: u8, sh: Shape)
+    requires { ⌜ Valid sh × (length (now cube) ≡ sh .w * cells sh) × Primitive reduction ⌝ }
+    ensures { λ r. ⌜ now (cube .exit) ≡ encoded reduction sh (heldData sh (now (cube .entry))) ⌝ }
+{
+    complete_across(cube, reduction, sh);
     encode_planes(cube, reduction, sh);
 }
 
@@ -45,6 +55,32 @@ fn encode_rows(data: &[u8], cube: &mut [u8], reduction: u8, sh: Shape)
             width: width,
         };
         line::encode(data, cube, reduction, from, to);
+        b += 1;
+    }
+}
+
+// The parity of axis 3 on the data rows that stand in the cube.
+fn complete_across(cube: &mut [u8], reduction: u8, sh: Shape)
+    requires { ⌜ Valid sh × (length (now cube) ≡ sh .w * cells sh) × Primitive reduction ⌝ }
+    ensures { λ r. ⌜ AcrossCompleted reduction sh (sh .l2 - 2) (now (cube .entry)) (now (cube .exit)) ⌝ }
+{
+    let l1 = sh.l1;
+    let l2 = sh.l2;
+    let l3 = sh.l3;
+    let w = sh.w;
+    let row = l1 * w;
+    let width = (l1 - 2) * w;
+    let rows = l2 - 2;
+    let e = line::erasures_at(reduction, (l3 - 2) as u8, (l3 - 1) as u8);
+    let mut b = 0;
+    while b < rows {
+        let run = Run {
+            first: b * row,
+            stride: l2 * row,
+            len: l3,
+            width: width,
+        };
+        line::solve(cube, reduction, run, e);
         b += 1;
     }
 }

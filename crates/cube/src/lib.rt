@@ -1,4 +1,4 @@
-// The packet cube, a product code of three axes with two parity packets on every line: its encoder and its check.
+// The packet cube, a product code of three axes with two parity packets on every line: its encoder, of a data string or in place, and its check.
 mod checker;
 mod encoder;
 
@@ -11,7 +11,7 @@ ghost use mathlib.Core.Path.{_≡_};
 ghost use Rattle.answer.specs.Values.{answerValue, checked};
 ghost use Rattle.field.specs.Field.{reduction};
 ghost use Rattle.data.specs.Calls.{cubeChecked};
-ghost use Rattle.cube.specs.Calls.{checkValue, EncodeOutcome, CheckOutcome};
+ghost use Rattle.cube.specs.Calls.{checkValue, EncodeOutcome, CompleteOutcome, CheckOutcome};
 
 // What the check of a cube answers: whether it is a code cube.
 pub enum CubeCheck {
@@ -28,6 +28,18 @@ pub fn encode(data: &[u8], cube: &mut [u8], sh: Shape) -> Answer
         return answer;
     };
     encoder::encode_cube(data, cube, field::reduction(), sh);
+    Answer::Done
+}
+
+// Encodes in place: leaves the data cells and writes every parity cell, whatever stands there.
+pub fn complete(cube: &mut [u8], sh: Shape) -> Answer
+    ensures { λ r. ⌜ CompleteOutcome reduction sh (now (cube .entry)) (now (cube .exit)) (answerValue r) ⌝ }
+{
+    let answer = cube_fits(sh, cube.len());
+    let Answer::Done = answer else {
+        return answer;
+    };
+    encoder::complete_cube(cube, field::reduction(), sh);
     Answer::Done
 }
 

@@ -53,3 +53,14 @@ pub record RowsEncoded (r : ℕ) (sh : Shape) (rows : ℕ) (ds xs : List ℕ) : 
       (a b c t : ℕ) → a < sh .l1 - 2 → b < rows → c < sh .l3 - 2 → t < sh .w →
       getD ds (c * partBytes sh + spot (sh .l1 - 2) (sh .w) a b t) 0 ≡
       getD xs (c * planeBytes sh + spot (sh .l1) (sh .w) a b t) 0
+
+-- The data cells of each plane's rows, before and after the lines of axis 3 through the first of those rows were completed: those lines are
+-- codewords in each layer, and the data cells of the data planes are kept.
+pub record AcrossCompleted (r : ℕ) (sh : Shape) (rows : ℕ) (before after : List ℕ) : Type 0 where
+  pub lines :
+      (a b t : ℕ) → a < sh .l1 - 2 → b < rows → t < sh .w →
+      Codeword r (λ c. getD after (c * planeBytes sh + spot (sh .l1) (sh .w) a b t) 0) (sh .l3)
+  pub kept :
+      (a b c t : ℕ) → a < sh .l1 - 2 → b < sh .l2 - 2 → c < sh .l3 - 2 → t < sh .w →
+      getD after (c * planeBytes sh + spot (sh .l1) (sh .w) a b t) 0 ≡
+      getD before (c * planeBytes sh + spot (sh .l1) (sh .w) a b t) 0
