@@ -10,7 +10,7 @@ use lib.Seq.{ext-getD, getD-append-add, take-at}
 use Rattle.shape.specs.declared.Shape.{Shape}
 use Rattle.shape.specs.Shapes.{Valid, cells, capacity}
 use Rattle.cursor.specs.Steps.{word, wordBytes}
-use Rattle.pack.specs.Packs.{padded, dataString}
+use Rattle.pack.specs.Packs.{dataString}
 use Rattle.pack.proofs.Written.{wordBytes-value, dataString-length}
 
 pub capacity-le : (sh : Shape) → Valid sh → capacity sh ≤ 268435456
@@ -25,11 +25,11 @@ capacity-le sh v =
 
 module _ (sh : Shape) where
   pub data-word : (file : List ℕ) → length file < 2 ^ 32 → word (dataString sh file) 0 ≡ length file
-  unfolding word dataString padded wordBytes
+  unfolding word dataString wordBytes
   data-word file l = wordBytes-value (length file) l
 
   pub data-later : (file : List ℕ) (q : ℕ) → 4 + length file ≤ q → q < capacity sh → getD (dataString sh file) q 0 ≡ 0
-  unfolding dataString padded wordBytes
+  unfolding dataString wordBytes
   data-later file q low high =
       let e : q ≡ 4 + (length file + (q - 4 - length file)) = omega arith in
       ap (λ (k : ℕ). getD (dataString sh file) k 0) e
@@ -38,7 +38,7 @@ module _ (sh : Shape) where
       ∙ getD-replicate (capacity sh - 4 - length file) (q - 4 - length file) 0 0 (omega arith)
 
   pub data-injective : (f g : List ℕ) → length f < 2 ^ 32 → length g < 2 ^ 32 → dataString sh f ≡ dataString sh g → f ≡ g
-  unfolding dataString padded wordBytes
+  unfolding dataString wordBytes
   data-injective f g lf lg e =
       let same : length f ≡ length g = sym (data-word f lf) ∙ ap (λ (ds : List ℕ). word ds 0) e ∙ data-word g lg in
       let behind : f ++ replicate (capacity sh - 4 - length f) 0 ≡ g ++ replicate (capacity sh - 4 - length g) 0 = ap (drop 4) e in
@@ -88,7 +88,7 @@ module _ (sh : Shape) (ds : List ℕ) (size : length ds ≡ capacity sh) (small 
           ∙ sym (zeros (4 + r) (omega arith) l)
 
   byte : (q : ℕ) → q < capacity sh → getD (dataString sh file) q 0 ≡ getD ds q 0
-  unfolding dataString padded wordBytes
+  unfolding dataString wordBytes
   byte q l =
       elim (decLt q 4) [
         | yes less ↦ List·getD-append (wordBytes (length file)) (file ++ replicate (capacity sh - 4 - length file) 0) 0 q less
@@ -125,7 +125,7 @@ word-small n (suc (suc (suc (suc i)))) = omega arith
 
 -- where its file is
 pub data-bytes : (sh : Shape) (file : List ℕ) → ((i : ℕ) → getD file i 0 < 256) → (i : ℕ) → getD (dataString sh file) i 0 < 256
-unfolding dataString padded
+unfolding dataString
 data-bytes sh file small =
     let n = capacity sh - 4 - length file in
     append-bytes (wordBytes (length file)) (file ++ replicate n 0) (word-small (length file)) (append-bytes file (replicate n 0) small (zeros-bytes n))

@@ -12,7 +12,7 @@ use Rattle.shape.proofs.Valid.{shape-number}
 use Rattle.cursor.specs.declared.Cursor.{Cursor}
 use Rattle.pack.specs.declared.Header.{Header}
 use Rattle.cursor.specs.Steps.{count, bytes}
-use Rattle.pack.specs.Reading.{end, headed, headerOf, jobBehind, jobOf, airBehind, airOf, plainAirOf}
+use Rattle.pack.specs.Reading.{end, headed, headerOf, sentChecked, jobBehind, jobOf, airBehind, airOf, plainAirOf}
 
 -- ---- the checks of a shape
 
@@ -45,6 +45,12 @@ module _ {A : Type 0} (P : ℕ → Type 0) (n : ℕ) (p : List ℕ) (c : Cursor)
   end-fails eight done rest = check-number P n _ 8 _ eight rest
 
 -- ---- the readers
+
+pub sent-fails : (P : ℕ → Type 0) (n : ℕ) → P 7 → P 1 → P 2 → P 3 → P 19 → (h : Header) → sentChecked h ≡ fails n → P n
+unfolding sentChecked
+sent-fails P n seven one two three nineteen h =
+    check-number P n _ 7 _ seven
+    (then-number P n _ _ (shape-fails P n one two three _) (λ z. check-number P n _ 19 _ nineteen (passes-number P n _)))
 
 module _ (P : ℕ → Type 0) (n : ℕ) (six : P 6) (seven : P 7) (one : P 1) (two : P 2) (three : P 3) (ten : P 10)
     (nineteen : P 19) (p : List ℕ) where

@@ -2,8 +2,9 @@
 use mathlib.Core.Path.{_≡_, refl, sym, ap, ap₂, _∙_}
 use mathlib.Core.Bool.{Bool, true, false, cond, not}
 use mathlib.Core.Logic.{⊎-elim}
-use mathlib.Core.List.{List, [], _∷_, _++_, append-nil}
+use mathlib.Core.List.{List, [], _∷_, _++_, append-nil, append-assoc}
 use Prim.Native.Nat.{ℕ, zero, suc, _+_, _-_, _*_, _≤_, _<_}
+use native.Mathlib.Nat.{add-zero}
 use native.Mathlib.Decide.{decLt}
 use native.Mathlib.Omega.{arith}
 use lib.Dec.{leb, ltb}
@@ -11,12 +12,14 @@ use lib.ListN.{length, getD, length-append, List·getD-append}
 use lib.Seq.{getD-append-add}
 use borrow.Author.Tests.{lt-ltb, le-ltb, leb-true, le-leb, lt-leb}
 use Rattle.shape.specs.declared.Shape.{Shape}
-use Rattle.shape.specs.Shapes.{both, cells, cell, dataCell, dataCells}
+use Rattle.shape.specs.declared.Sizes.{Sizes}
+use Rattle.shape.specs.Shapes.{both, cells, cell, dataCell, dataCells, sizes}
 use Rattle.stopping.specs.Stopping.{number}
 use Rattle.stopping.proofs.Number.{true-or-false, number-in, number-out, number-nil, rank-lt}
 use Rattle.stopping.proofs.Ranks.{data-cell, data-rank, data-number, number-later}
 use Rattle.pack.specs.declared.Header.{Header}
 use Rattle.pack.specs.Packs.{unsent, sends, sentBelow, upFrom}
+use Rattle.pack.proofs.Sound.{data-cells-le}
 
 -- ---- by coordinates
 
@@ -69,6 +72,16 @@ sent-number h =
     number-later (dataCell (h .shape)) (h .used) (cells (h .shape)) ∙ ap (λ (n : ℕ). n - h .used) (data-number (h .shape)) in
     omega (arith, number-not (unsent h) (cells (h .shape)), none)
 
+-- so by the sizes of the shape
+module _ (h : Header) (z : Sizes) (measured : z ≡ sizes (h .shape)) (all : ℕ) (same : all ≡ dataCells (h .shape)) where
+  pub sent-counted : z .cells - (all - h .used) ≡ number (sends h) (z .cells)
+  unfolding sizes
+  sent-counted = rw (measured, same) (sym (sent-number h))
+
+  pub unsent-fit : all - h .used ≤ z .cells
+  unfolding sizes
+  unsent-fit = rw (measured, same) (omega (arith, data-cells-le (h .shape)))
+
 -- with every data cell in use all cells are sent
 pub all-sent : (h : Header) → h .used ≡ dataCells (h .shape) → (n : ℕ) → n < cells (h .shape) → unsent h n ≡ false
 unfolding unsent both
@@ -81,6 +94,13 @@ all-sent h e n l =
     (λ other. rw other) (true-or-false (dataCell (h .shape) n))
 
 -- ---- their list
+
+pub upFrom-more : (n k : ℕ) → upFrom n (suc k) ≡ upFrom n k ++ ((n + k) ∷ [])
+unfolding upFrom
+upFrom-more n zero = rw (add-zero n)
+upFrom-more n (suc k) =
+    let e : suc n + k ≡ n + suc k = omega arith in
+    ap (λ (l : List ℕ). n ∷ l) (rw e at (upFrom-more (suc n) k))
 
 module _ (h : Header) where
   pub sentBelow-in : (n : ℕ) → unsent h n ≡ false → sentBelow h (suc n) ≡ sentBelow h n ++ (n ∷ [])
@@ -121,3 +141,19 @@ module _ (h : Header) where
     where
       later : {m : ℕ} → SentAt n m → SentAt (suc n) m
       later s = record { below = omega (arith, s .below); is-sent = s .is-sent }
+
+  -- a run of cells that are sent, and one of cells that are not
+  pub sentBelow-run : (n k : ℕ) → ((i : ℕ) → i < k → unsent h (n + i) ≡ false) → sentBelow h (n + k) ≡ sentBelow h n ++ upFrom n k
+  unfolding upFrom
+  sentBelow-run n zero all = ap (sentBelow h) (add-zero n) ∙ sym (append-nil (sentBelow h n))
+  sentBelow-run n (suc k) all =
+      let e : n + suc k ≡ suc (n + k) = omega arith in
+      ap (sentBelow h) e ∙ sentBelow-in (n + k) (all k (omega arith))
+      ∙ ap (λ (l : List ℕ). l ++ ((n + k) ∷ [])) (sentBelow-run n k (λ i l. all i (omega arith)))
+      ∙ append-assoc (sentBelow h n) (upFrom n k) ((n + k) ∷ []) ∙ ap (λ (l : List ℕ). sentBelow h n ++ l) (sym (upFrom-more n k))
+
+  pub sentBelow-skip : (n k : ℕ) → ((i : ℕ) → i < k → unsent h (n + i) ≡ true) → sentBelow h (n + k) ≡ sentBelow h n
+  sentBelow-skip n zero none = ap (sentBelow h) (add-zero n)
+  sentBelow-skip n (suc k) none =
+      let e : n + suc k ≡ suc (n + k) = omega arith in
+      ap (sentBelow h) e ∙ sentBelow-out (n + k) (none k (omega arith)) ∙ sentBelow-skip n k (λ i l. none i (omega arith))

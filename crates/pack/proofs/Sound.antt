@@ -10,24 +10,28 @@ use native.Mathlib.Omega.{arith}
 use lib.ListN.{length, getD}
 use borrow.Author.Tests.{leb-true, eqb-true, ne-eqb}
 use Rattle.answer.specs.declared.Refusal.{Refusal}
-use Rattle.answer.specs.Values.{Checked, passes, checked, refusal}
+use Rattle.answer.specs.Values.{Checked, passes, check, andThen, checked, refusal}
 use Rattle.answer.proofs.Values.{passes-injective, check-passed, checked-passes, then-passed}
 use Rattle.shape.specs.declared.Shape.{Shape}
 use Rattle.shape.specs.declared.Sizes.{Sizes}
 use Rattle.shape.specs.Shapes.{Valid, cells, capacity, dataCells, sizes, shapeChecked}
-use Rattle.shape.proofs.Valid.{shape-passed, within-parts}
+use Rattle.shape.proofs.Valid.{shape-passed, valid-passes, within-parts, within-true}
+use Rattle.stopping.specs.Stopping.{number}
 use Rattle.cursor.specs.declared.Cursor.{Cursor}
 use Rattle.pack.specs.declared.Section.{Section}
 use Rattle.pack.specs.declared.Header.{Header}
 use Rattle.pack.specs.declared.HeaderRead.{HeaderRead}
 use Rattle.pack.specs.declared.HeaderRead.the-variants.{Headed, Refused as NoHeader}
+use Rattle.pack.specs.declared.SentRead.{SentRead}
+use Rattle.pack.specs.declared.SentRead.the-variants.{Sent, Refused as NotSent}
 use Rattle.pack.specs.declared.JobRead.{JobRead}
 use Rattle.pack.specs.declared.JobRead.the-variants.{Job, Refused as NoJob}
 use Rattle.pack.specs.declared.AirRead.{AirRead}
 use Rattle.pack.specs.declared.AirRead.the-variants.{Air, Refused as NoAir}
 use Rattle.cursor.specs.Steps.{word}
 use Rattle.cursor.specs.Steps.{count, bytes}
-use Rattle.pack.specs.Reading.{end, usedBy, headerWith, headerFor, headed, isCount, headerOf, headerValue, packetSize, jobBehind, jobOf, jobValue, airBehind, airOf, plainAirOf, airValue}
+use Rattle.pack.specs.Packs.{sends}
+use Rattle.pack.specs.Reading.{end, usedBy, headerWith, headerFor, headed, isCount, headerOf, headerValue, sentChecked, sentValue, packetSize, jobBehind, jobOf, jobValue, airBehind, airOf, plainAirOf, airValue}
 use Rattle.cursor.proofs.Steps.{word-lt}
 
 -- ---- a step that passed
@@ -114,6 +118,43 @@ data-some sh v =
     let b : 0 < sh .l2 - 2 = omega (arith, v .l2-low) in
     let c : 0 < sh .l3 - 2 = omega (arith, v .l3-low) in
     mul-pos (mul-pos a b) c
+
+-- A header that section 1 can have.
+pub record HeaderSent (h : Header) : Type 0 where
+  pub valid : Valid (h .shape)
+  pub counted : (h .count ≡ 5) ⊎ (h .count ≡ 9)
+  pub some : 1 ≤ h .used
+  pub most : h .used ≤ dataCells (h .shape)
+
+pub sound-sent : (h : Header) → HeaderSound h → HeaderSent h
+sound-sent h sound = record { valid = sound .valid; counted = sound .counted; some = sound .some; most = sound .most }
+
+pub sent-passed : (h : Header) (n : ℕ) → sentChecked h ≡ passes n → HeaderSent h × (n ≡ number (sends h) (cells (h .shape)))
+unfolding sentChecked sizes
+sent-passed h n e =
+    let (t, measured) = check-passed _ 7 _ n e in
+    let (z, passed, rest) = then-passed (shapeChecked (h .shape)) _ n measured in
+    let (v, same) = shape-passed (h .shape) z passed in
+    let (r, told) = check-passed _ 19 _ n rest in
+    let (some, most) = within-parts 1 (dataCells (h .shape)) (h .used) r in
+    let count : number (sends h) (z .cells) ≡ n = passes-injective _ _ told in
+    (record { valid = v; counted = count-five-nine (h .count) t; some = some; most = most }, rw same at (sym count))
+
+pub sent-passes : (h : Header) → HeaderSent h → sentChecked h ≡ passes (number (sends h) (cells (h .shape)))
+unfolding sentChecked sizes check andThen isCount
+sent-passes h sent =
+    let counted : isCount (h .count) ≡ true = ⊎-elim (λ e. rw e) (λ e. rw e) (sent .counted) in
+    rw (counted, valid-passes (h .shape) (sent .valid), within-true 1 (dataCells (h .shape)) (h .used) (sent .some) (sent .most))
+
+-- what a caller learns from `sent_cells`
+module _ (h : Header) (r : SentRead) (e : sentValue r ≡ checked (sentChecked h)) where
+  pub sent-told : (n : ℕ) → r ≡ Sent n → sentChecked h ≡ passes n
+  unfolding sentValue
+  sent-told n q = checked-passes (sentChecked h) n (rw q at e)
+
+  pub sent-refused : (f : Refusal) → r ≡ NotSent f → refusal {A = ℕ} f ≡ checked (sentChecked h)
+  unfolding sentValue
+  sent-refused f q = rw q at e
 
 -- document 01's own header, and one with U
 pub plain-sound : (sh : Shape) → Valid sh → 4 ≤ capacity sh → HeaderSound (headerFor sh)

@@ -2,7 +2,7 @@
 -- pack is laid out: a count, then so many bytes, each behind what was written before it.
 use mathlib.Core.Path.{_≡_, refl, ap, sym, _∙_}
 use mathlib.Core.Bool.{true, cond}
-use mathlib.Core.Logic.{⊎-elim}
+use mathlib.Core.Logic.{_⊎_, ⊎-elim}
 use mathlib.Core.List.{List, [], _∷_, _++_, map, append-assoc, append-nil}
 use Prim.Native.Nat.{ℕ, zero, suc, _+_, _-_, _*_, _/_, _%_, _^_, _≤_, _<_}
 use native.Mathlib.Nat.{add-zero, suc-mul, zero-mul, sub-le, mul-le-mul, mul-le-mul-left, mul-comm, mod-eq-of-lt, div-add-mod, div-div-eq-div-mul, mod-add-div}
@@ -24,7 +24,7 @@ use Rattle.cursor.specs.declared.Cursor.{Cursor}
 use Rattle.pack.specs.declared.Section.{Section}
 use Rattle.pack.specs.declared.Header.{Header}
 use Rattle.cursor.specs.Steps.{word, wordBytes}
-use Rattle.pack.specs.Packs.{shapeBytes, sectionOne, head, Packet, packetBytes, packets, jobPack, airPack, airHead, packetOf, upFrom, sends, sentBelow, sentPackets, airSize, packSize, padded, dataString}
+use Rattle.pack.specs.Packs.{shapeBytes, sectionOne, head, Packet, packetBytes, packets, jobPack, airPack, airHead, packetOf, upFrom, sends, sentBelow, sentPackets, airSize, packSize, dataString}
 use Rattle.cursor.specs.Steps.{count, bytes}
 use Rattle.pack.specs.Reading.{end, shapeAt, givenAt, usedBy, headerWith, headed, isCount, headerOf, jobBehind, jobOf, packetSize, airBehind, airOf, fileOf}
 use Rattle.pack.specs.Packets.{packetAt, packetNo, source, sourceOf}
@@ -100,13 +100,13 @@ end-written p before done e = rw (e, eq-eqb (length before) (length before) refl
 unfoldable body : Header → List ℕ
 body h = shapeBytes (h .shape) ++ cond (eqb (h .count) 9) (wordBytes (h .used)) []
 
-body-length : (h : Header) → HeaderSound h → h .count ≡ length (body h)
+body-length : (h : Header) → (h .count ≡ 5) ⊎ (h .count ≡ 9) → h .count ≡ length (body h)
 unfolding body shapeBytes wordBytes
-body-length h sound = ⊎-elim (λ e. rw e) (λ e. rw e) (sound .counted)
+body-length h counted = ⊎-elim (λ e. rw e) (λ e. rw e) counted
 
-pub head-length : (h : Header) → HeaderSound h → length (head h) ≡ 4 + h .count
+pub head-length : (h : Header) → (h .count ≡ 5) ⊎ (h .count ≡ 9) → length (head h) ≡ 4 + h .count
 unfolding head sectionOne wordBytes body
-head-length h sound = omega (arith, body-length h sound)
+head-length h counted = omega (arith, body-length h counted)
 
 used-small : (h : Header) → HeaderSound h → h .used < 2 ^ 32
 used-small h sound = omega (arith, sound .most, data-cells-le (h .shape), cells-le (h .shape) (sound .valid))
@@ -138,7 +138,7 @@ header-written h rest sound =
     rw (
       count-written p [] (body h ++ rest) n _ (append-assoc (wordBytes n) (body h) rest) small,
       counted,
-      bytes-written p (wordBytes n) rest (body h) n _ (append-assoc (wordBytes n) (body h) rest) (body-length h sound),
+      bytes-written p (wordBytes n) rest (body h) n _ (append-assoc (wordBytes n) (body h) rest) (body-length h (sound .counted)),
       shape-there,
       valid-passes (h .shape) (sound .valid),
       le-leb 4 (capacity (h .shape)) (sound .room),
@@ -343,13 +343,6 @@ upFrom-at n zero i h = absurd (omega arith)
 upFrom-at n (suc k) zero h = sym (add-zero n)
 upFrom-at n (suc k) (suc i) h = upFrom-at (suc n) k i (omega arith) ∙ omega arith
 
-pub upFrom-more : (n k : ℕ) → upFrom n (suc k) ≡ upFrom n k ++ ((n + k) ∷ [])
-unfolding upFrom
-upFrom-more n zero = rw (add-zero n)
-upFrom-more n (suc k) =
-    let e : suc n + k ≡ n + suc k = omega arith in
-    ap (λ (l : List ℕ). n ∷ l) (rw e at (upFrom-more (suc n) k))
-
 pub packets-append : (ks js : List Packet) → packets (ks ++ js) ≡ packets ks ++ packets js
 unfolding packets
 packets-append [] js = refl
@@ -393,27 +386,28 @@ pub air-laid : (h : Header) (ps : List Packet) → airPack h ps ≡ airHead h (l
 unfolding airPack airHead
 air-laid h ps = simp append-assoc
 
-pub airHead-length : (h : Header) (n : ℕ) → HeaderSound h → length (airHead h n) ≡ 12 + h .count
+pub airHead-length : (h : Header) (n : ℕ) → (h .count ≡ 5) ⊎ (h .count ≡ 9) → length (airHead h n) ≡ 12 + h .count
 unfolding airHead wordBytes
-airHead-length h n sound = omega (arith, length-append (head h) (wordBytes 0 ++ wordBytes n), head-length h sound)
+airHead-length h n counted = omega (arith, length-append (head h) (wordBytes 0 ++ wordBytes n), head-length h counted)
 
-pub air-length : (h : Header) (ps : List Packet) → HeaderSound h → Sized (h .shape .w) ps → length (airPack h ps) ≡ airSize h (length ps)
+pub air-length : (h : Header) (ps : List Packet) → (h .count ≡ 5) ⊎ (h .count ≡ 9) → Sized (h .shape .w) ps
+    → length (airPack h ps) ≡ airSize h (length ps)
 unfolding airSize
-air-length h ps sound all =
+air-length h ps counted all =
     ap length (air-laid h ps) ∙ length-append (airHead h (length ps)) (packets ps)
-    ∙ omega (arith, airHead-length h (length ps) sound, packets-length (h .shape .w) ps all)
+    ∙ omega (arith, airHead-length h (length ps) counted, packets-length (h .shape .w) ps all)
 
 -- the written pack has the size that request P5 gives
-pub pack-size : (h : Header) (xs : List ℕ) → HeaderSound h → length xs ≡ h .shape .w * cells (h .shape)
+pub pack-size : (h : Header) (xs : List ℕ) → (h .count ≡ 5) ⊎ (h .count ≡ 9) → length xs ≡ h .shape .w * cells (h .shape)
     → length (airPack h (sentPackets h xs)) ≡ packSize h
 unfolding packSize
-pack-size h xs sound size =
-    air-length h (sentPackets h xs) sound (sentPackets-sized h xs size) ∙ ap (airSize h) (sentPackets-length h xs)
+pack-size h xs counted size =
+    air-length h (sentPackets h xs) counted (sentPackets-sized h xs size) ∙ ap (airSize h) (sentPackets-length h xs)
 
 -- ---- data strings
 
 pub dataString-length : (sh : Shape) (file : List ℕ) → 4 + length file ≤ capacity sh → length (dataString sh file) ≡ capacity sh
-unfolding dataString padded wordBytes
+unfolding dataString wordBytes
 dataString-length sh file h =
     let zeros = replicate {A = ℕ} (capacity sh - 4 - length file) 0 in
     omega (arith, length-append file zeros, length-replicate {A = ℕ} (capacity sh - 4 - length file) 0)

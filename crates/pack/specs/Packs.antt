@@ -84,10 +84,6 @@ airSize h n = 12 + h .count + n * (3 + h .shape .w)
 unfoldable pub packSize : Header → ℕ
 packSize h = airSize h (number (sends h) (cells (h .shape)))
 
--- "the file's length in four bytes, low first, the file, then 00h", so many bytes in all
-unfoldable pub padded : ℕ → List ℕ → List ℕ
-padded size file = wordBytes (length file) ++ (file ++ replicate (size - 4 - length file) 0)
-
 -- "The data string is the file's length in four bytes, low first, the file, then 00h to capacity."
 unfoldable pub dataString : Shape → List ℕ → List ℕ
-dataString sh file = padded (capacity sh) file
+dataString sh file = wordBytes (length file) ++ (file ++ replicate (capacity sh - 4 - length file) 0)

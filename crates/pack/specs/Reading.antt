@@ -8,16 +8,20 @@ use lib.ListN.{length, getD, take, drop}
 use Rattle.answer.specs.Values.{Value, gives, Checked, passes, check, andThen, refusal}
 use Rattle.shape.specs.declared.Shape.{Shape}
 use Rattle.shape.specs.Shapes.{within, dataCells, sizes, shapeChecked}
+use Rattle.stopping.specs.Stopping.{number}
 use Rattle.cursor.specs.declared.Cursor.{Cursor}
 use Rattle.cursor.specs.Steps.{word, count, bytes}
 use Rattle.pack.specs.declared.Section.{Section}
 use Rattle.pack.specs.declared.Header.{Header}
 use Rattle.pack.specs.declared.HeaderRead.{HeaderRead}
 use Rattle.pack.specs.declared.HeaderRead.the-variants.{Headed, Refused as NoHeader}
+use Rattle.pack.specs.declared.SentRead.{SentRead}
+use Rattle.pack.specs.declared.SentRead.the-variants.{Sent, Refused as NotSent}
 use Rattle.pack.specs.declared.JobRead.{JobRead}
 use Rattle.pack.specs.declared.JobRead.the-variants.{Job, Refused as NoJob}
 use Rattle.pack.specs.declared.AirRead.{AirRead}
 use Rattle.pack.specs.declared.AirRead.the-variants.{Air, Refused as NoAir}
+use Rattle.pack.specs.Packs.{sends}
 
 -- "bytes after section 3"
 unfoldable pub end : {A : Type 0} → List ℕ → Cursor → Checked A → Checked A
@@ -71,6 +75,14 @@ headerOf p =
     (bytes p body n (λ at next.
     headed (shapeAt p at) n (givenAt p at n) next)))
 
+-- A header that section 1 can have: 7, 1, 2, 3, 19. Its cells that are sent.
+unfoldable pub sentChecked : Header → Checked ℕ
+sentChecked h =
+    check (isCount (h .count)) 7
+    (andThen (shapeChecked (h .shape)) (λ z.
+    check (within 1 (dataCells (h .shape)) (h .used)) 19
+    (passes (number (sends h) (z .cells)))))
+
 -- Sections 2 and 3 for the writer: "count above capacity - 4", "at the others 9 and 10 come before 6"; 19: "in the writer also U × W below 4 + file
 -- bytes, after 10 on section 2's count".
 unfoldable pub jobBehind : List ℕ → Header → Cursor → Checked (Header × Section)
@@ -119,6 +131,10 @@ fileOf p s = take (s .count) (drop (s .at) p)
 unfoldable pub headerValue : HeaderRead → Value (Header × Cursor)
 headerValue (Headed h next) = gives (h, next)
 headerValue (NoHeader f) = refusal f
+
+unfoldable pub sentValue : SentRead → Value ℕ
+sentValue (Sent n) = gives n
+sentValue (NotSent f) = refusal f
 
 unfoldable pub jobValue : JobRead → Value (Header × Section)
 jobValue (Job h s) = gives (h, s)

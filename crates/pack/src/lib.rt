@@ -12,6 +12,7 @@ pub use reading::read_air;
 pub use reading::read_header;
 pub use reading::read_job;
 pub use reading::read_plain_air;
+pub use reading::sent_cells;
 use shape::Shape;
 use shape::Sizes;
 
@@ -31,6 +32,12 @@ pub struct Header {
 
 pub enum HeaderRead {
     Headed(Header, Cursor),
+    Refused(Refusal),
+}
+
+// How many cells are sent.
+pub enum SentRead {
+    Sent(usize),
     Refused(Refusal),
 }
 

@@ -4,6 +4,7 @@ use crate::Header;
 use crate::HeaderRead;
 use crate::JobRead;
 use crate::Section;
+use crate::SentRead;
 use answer::Fault;
 use answer::Refusal;
 use cursor::BytesRead;
@@ -17,7 +18,7 @@ ghost use Prim.Native.Nat.{_+_, _≤_};
 ghost use lib.ListN.{length};
 ghost use Rattle.answer.specs.Values.{checked};
 ghost use Rattle.shape.specs.Shapes.{Valid, within, dataCells};
-ghost use Rattle.pack.specs.Reading.{shapeAt, givenAt, usedBy, headed, isCount, headerOf, headerValue, jobBehind, jobOf, jobValue, airBehind, airOf, plainAirOf, airValue};
+ghost use Rattle.pack.specs.Reading.{shapeAt, givenAt, usedBy, headed, isCount, headerOf, headerValue, sentChecked, sentValue, jobBehind, jobOf, jobValue, airBehind, airOf, plainAirOf, airValue};
 
 // Section 1 and the shape it holds.
 pub fn read_header(pack: &[u8]) -> HeaderRead
@@ -71,6 +72,26 @@ pub fn read_plain_air(pack: &[u8]) -> AirRead
         return AirRead::Refused(Refusal::Plain(Fault::HeaderCount));
     }
     read_air(pack)
+}
+
+// How many cells are sent with a header that section 1 can have.
+pub fn sent_cells(h: Header) -> SentRead
+    ensures { λ r. ⌜ sentValue r ≡ checked (sentChecked h) ⌝ }
+{
+    if !is_count(h.count) {
+        return SentRead::Refused(Refusal::Plain(Fault::HeaderCount));
+    }
+    match shape::measure(h.shape) {
+        Measured::Refused(f) => SentRead::Refused(f),
+        Measured::Fits(z) => {
+            let all = data_cells(h.shape);
+            let used = h.used;
+            if !in_use(all, used) {
+                return SentRead::Refused(Refusal::Plain(Fault::UsedCells));
+            }
+            SentRead::Sent(z.cells - (all - used))
+        }
+    }
 }
 
 // Whether section 1 may have this count.
