@@ -11,7 +11,7 @@ use lib.ListN.{length, getD}
 use borrow.Author.Tests.{leb-true, eqb-true, ne-eqb}
 use Rattle.answer.specs.declared.Refusal.{Refusal}
 use Rattle.answer.specs.Values.{Checked, passes, check, andThen, checked, refusal}
-use Rattle.answer.proofs.Values.{passes-injective, check-passed, checked-passes, then-passed}
+use Rattle.answer.proofs.Values.{refusal-gives, passes-injective, check-passed, checked-passes, then-passed}
 use Rattle.shape.specs.declared.Shape.{Shape}
 use Rattle.shape.specs.declared.Sizes.{Sizes}
 use Rattle.shape.specs.Shapes.{Valid, cells, capacity, dataCells, sizes, shapeChecked}
@@ -155,6 +155,11 @@ module _ (h : Header) (r : SentRead) (e : sentValue r ≡ checked (sentChecked h
   pub sent-refused : (f : Refusal) → r ≡ NotSent f → refusal {A = ℕ} f ≡ checked (sentChecked h)
   unfolding sentValue
   sent-refused f q = rw q at e
+
+-- a header that section 1 can have is not refused
+pub sent-not : (h : Header) → HeaderSent h → (r : SentRead) → sentValue r ≡ checked (sentChecked h) → (f : Refusal) → r ≡ NotSent f → ⊥
+unfolding sentValue checked
+sent-not h sent r e f q = refusal-gives f _ (rw (q, sent-passes h sent) at e)
 
 -- document 01's own header, and one with U
 pub plain-sound : (sh : Shape) → Valid sh → 4 ≤ capacity sh → HeaderSound (headerFor sh)

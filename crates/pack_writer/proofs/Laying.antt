@@ -1,25 +1,33 @@
--- Bytes laid at a cursor, one part behind the other, and the pack and the data string that they make.
+-- Bytes laid at a cursor, one part behind the other, and the pack that they make.
 use mathlib.Core.Path.{_≡_, refl, sym, ap, _∙_}
-use mathlib.Core.List.{List, [], _∷_, _++_, append-nil}
-use Prim.Native.Nat.{ℕ, _+_, _-_, _*_, _/_, _%_, _≤_, _<_}
+use mathlib.Core.Logic.{⊎-elim}
+use mathlib.Core.List.{List, [], _∷_, _++_, map, append-nil}
+use Prim.Native.Nat.{ℕ, _+_, _*_, _/_, _%_, _≤_, _<_}
 use native.Mathlib.Nat.{mod-eq-of-lt, mod-lt, mul-le-mul}
+use native.Mathlib.Decide.{ℕ-discrete}
+use native.Mathlib.Numerals.{add-one}
 use native.Mathlib.Omega.{arith}
-use lib.ListN.{length, set, take, drop, replicate, length-append, length-drop, length-replicate}
+use lib.ListN.{length, set, take, drop, length-append, length-drop, length-map, List·getD-map}
 use lib.Seq.{length-take-le}
-use Rattle.span.specs.Span.{Put, SetTo}
-use Rattle.span.proofs.Putting.{put-none, put-one, put-put, put-more, put-all, set-put}
+use borrow.Author.Tests.{eq-eqb, ne-eqb}
+use borrow.Table.Elements.{map-app}
+use Rattle.span.specs.Span.{Put}
+use Rattle.span.proofs.Putting.{put-none, put-one, put-put, put-more, put-all}
 use Rattle.span.proofs.Stretches.{stretch-end}
 use Rattle.shape.specs.declared.Shape.{Shape}
 use Rattle.shape.specs.Shapes.{Valid, cells}
 use Rattle.shape.proofs.Geometry.{third-lt}
+use Rattle.stopping.specs.Stopping.{number}
 use Rattle.cursor.specs.declared.Cursor.{Cursor}
-use Rattle.pack.specs.declared.Section.{Section}
 use Rattle.cursor.specs.Steps.{wordBytes}
-use Rattle.pack.specs.Packs.{shapeBytes, packetBytes, packets, airPack, airHead, packetOf, upFrom, firstPackets, everyPacket, packSize, padded}
-use Rattle.pack.specs.Reading.{fileOf}
-use Rattle.pack.proofs.Written.{packets-length, packets-append, firstPackets-length, firstPackets-sized, firstPackets-more, everyPacket-length, air-laid, pack-size}
+use Rattle.pack.specs.declared.Header.{Header}
+use Rattle.pack.specs.Packs.{shapeBytes, sectionOne, head, Packet, packetBytes, packets, airPack, airHead, packetOf, upFrom, sends, sentPackets, airSize, packSize}
+use Rattle.pack.specs.Packets.{packetNo}
+use Rattle.pack.proofs.Sound.{HeaderSent}
+use Rattle.pack.proofs.Sent.{upFrom-more}
+use Rattle.pack.proofs.Written.{packets-length, packets-append, getD-inside, upFrom-length, upFrom-at, packetOf-length, sentPackets-length, air-laid, airHead-length, pack-size}
 use Rattle.pack_writer.specs.Writing.{Laid, CoordinatesOutcome, coordinates-written, coordinates-outside}
-use Rattle.pack_writer.specs.Inner.Writing.{coordinates}
+use Rattle.pack_writer.specs.Inner.Writing.{IsCell, packetsFrom}
 
 -- ---- one part behind the other
 
@@ -61,18 +69,17 @@ shape-put s sh at v h =
     rw (a, b, c, e) (put-five s at (sh .l1) (sh .l2) (sh .l3) (sh .w % 256) (sh .w / 256) h)
 
 -- a packet's coordinates fit a byte each
-pub coordinates-fit : (sh : Shape) (n : ℕ) → Valid sh → n < cells sh
-    → n % sh .l1 % 256 ∷ n / sh .l1 % sh .l2 % 256 ∷ n / (sh .l1 * sh .l2) % 256 ∷ [] ≡ coordinates sh n
-unfolding coordinates
-coordinates-fit sh n v h =
-    let low : 9 ≤ sh .l1 * sh .l2 = mul-le-mul (v .l1-low) (v .l2-low) in
-    let p : n % sh .l1 < sh .l1 = mod-lt n (omega (arith, v .l1-low)) in
-    let q : n / sh .l1 % sh .l2 < sh .l2 = mod-lt (n / sh .l1) (omega (arith, v .l2-low)) in
-    let r : n / (sh .l1 * sh .l2) < sh .l3 = third-lt sh n (omega arith) h in
-    let a : n % sh .l1 % 256 ≡ n % sh .l1 = mod-eq-of-lt (omega (arith, v .l1-high)) in
-    let b : n / sh .l1 % sh .l2 % 256 ≡ n / sh .l1 % sh .l2 = mod-eq-of-lt (omega (arith, v .l2-high)) in
-    let c : n / (sh .l1 * sh .l2) % 256 ≡ n / (sh .l1 * sh .l2) = mod-eq-of-lt (omega (arith, v .l3-high)) in
-    rw (a, b, c)
+module _ (sh : Shape) (n a b c : ℕ) (v : Valid sh) (h : n < cells sh) (is : IsCell sh n a b c) where
+  pub coordinates-fit : a % 256 ∷ b % 256 ∷ c % 256 ∷ [] ≡ n % sh .l1 ∷ n / sh .l1 % sh .l2 ∷ n / (sh .l1 * sh .l2) ∷ []
+  coordinates-fit =
+      let low : 9 ≤ sh .l1 * sh .l2 = mul-le-mul (v .l1-low) (v .l2-low) in
+      let p : n % sh .l1 < sh .l1 = mod-lt n (omega (arith, v .l1-low)) in
+      let q : n / sh .l1 % sh .l2 < sh .l2 = mod-lt (n / sh .l1) (omega (arith, v .l2-low)) in
+      let r : n / (sh .l1 * sh .l2) < sh .l3 = third-lt sh n (omega arith) h in
+      let x : a % 256 ≡ a = mod-eq-of-lt (omega (arith, v .l1-high, is .first)) in
+      let y : b % 256 ≡ b = mod-eq-of-lt (omega (arith, v .l2-high, is .second)) in
+      let z : c % 256 ≡ c = mod-eq-of-lt (omega (arith, v .l3-high, is .third)) in
+      rw (x, y, z, is .first, is .second, is .third)
 
 -- coordinates that were written, where there was room for them
 pub coordinates-told : {s after : List ℕ} {c next : Cursor} {x y z : ℕ} → CoordinatesOutcome s c x y z after next → c .at + 3 ≤ length s
@@ -83,68 +90,112 @@ coordinates-told (coordinates-outside short same kept) h = absurd (omega arith)
 -- ---- packets
 
 -- a packet: its coordinates, then its cell
-pub packet-laid : {s mid after : List ℕ} {c d e : Cursor} (xs : List ℕ) (sh : Shape) (n : ℕ) → Laid s c (coordinates sh n) mid d
-    → Laid mid d (take (sh .w) (drop (n * sh .w) xs)) after e → Laid s c (packetBytes (packetOf sh xs n)) after e
-unfolding coordinates packetBytes packetOf
-packet-laid xs sh n first second = laid-laid first second
+pub packet-laid : {s mid after : List ℕ} {at d e : Cursor} (xs : List ℕ) (sh : Shape) (n a b c : ℕ) → Valid sh → n < cells sh → IsCell sh n a b c
+    → Laid s at (a % 256 ∷ b % 256 ∷ c % 256 ∷ []) mid d → Laid mid d (take (sh .w) (drop (n * sh .w) xs)) after e
+    → Laid s at (packetBytes (packetOf sh xs n)) after e
+unfolding packetBytes packetOf
+packet-laid xs sh n a b c v h is first second = laid-laid (rw (coordinates-fit sh n a b c v h is) at first) second
 
-module _ (sh : Shape) (xs : List ℕ) (size : length xs ≡ sh .w * cells sh) where
-  first-length : (n : ℕ) → n ≤ cells sh → length (packets (firstPackets sh xs n)) ≡ n * (3 + sh .w)
-  first-length n few =
-      packets-length (sh .w) (firstPackets sh xs n) (firstPackets-sized sh xs size n few)
-      ∙ ap (λ (k : ℕ). k * (3 + sh .w)) (firstPackets-length sh xs n)
+-- no packets
+pub packets-none : (s : List ℕ) (c : Cursor) → Laid s c (packets []) s c
+unfolding packets
+packets-none s c = record { put = put-none s (c .at); behind = omega arith }
 
-  -- there is room for the next packet
-  pub packet-room : {s out : List ℕ} {c next : Cursor} (n : ℕ) → n < cells sh → c .at + cells sh * (3 + sh .w) ≤ length s
-      → Laid s c (packets (firstPackets sh xs n)) out next → next .at + (3 + sh .w) ≤ length out
-  packet-room n h room l =
-      omega (arith, l .behind, l .put .kept .size, first-length n (omega arith), stretch-end n (cells sh) (3 + sh .w) h)
+-- packets behind packets
+pub packets-laid : {s mid after : List ℕ} {c d e : Cursor} (ks js : List Packet) → Laid s c (packets ks) mid d → Laid mid d (packets js) after e
+    → Laid s c (packets (ks ++ js)) after e
+packets-laid ks js first second = rw (packets-append ks js) (laid-laid first second)
+
+-- ---- the packets of a run of cells
+
+module _ (sh : Shape) (xs : List ℕ) where
+  pub from-none : (n : ℕ) → packetsFrom sh xs n 0 ≡ []
+  unfolding packetsFrom upFrom
+  from-none n = refl
+
+  pub from-more : (n k : ℕ) → packetsFrom sh xs n (k + 1) ≡ packetsFrom sh xs n k ++ (packetOf sh xs (n + k) ∷ [])
+  unfolding packetsFrom
+  from-more n k = rw (add-one k, upFrom-more n k) (map-app (packetOf sh xs) (upFrom n k) ((n + k) ∷ []))
+
+  pub from-length : (n k : ℕ) → length (packetsFrom sh xs n k) ≡ k
+  unfolding packetsFrom
+  from-length n k = length-map (upFrom n k) (packetOf sh xs) ∙ upFrom-length n k
+
+  from-at : (n k i : ℕ) → i < k → packetNo (packetsFrom sh xs n k) i ≡ packetOf sh xs (n + i)
+  unfolding packetsFrom packetNo
+  from-at n k i h =
+      let size : i < length (map (packetOf sh xs) (upFrom n k)) = omega (arith, from-length n k) in
+      getD-inside (map (packetOf sh xs) (upFrom n k)) i _ (packetOf sh xs 0) size
+      ∙ List·getD-map (packetOf sh xs) (upFrom n k) i 0 ∙ ap (packetOf sh xs) (upFrom-at n k i h)
+
+  pub from-bytes : length xs ≡ sh .w * cells sh → (n k : ℕ) → n + k ≤ cells sh → length (packets (packetsFrom sh xs n k)) ≡ k * (3 + sh .w)
+  from-bytes size n k few =
+      packets-length (sh .w) (packetsFrom sh xs n k)
+      (λ i l. let m : i < k = omega (arith, from-length n k) in rw (from-at n k i m) (packetOf-length sh xs size (n + i) (omega arith)))
+      ∙ ap (λ (m : ℕ). m * (3 + sh .w)) (from-length n k)
+
+pub run-none : (s : List ℕ) (c : Cursor) (sh : Shape) (xs : List ℕ) (n k : ℕ) → k ≡ 0 → Laid s c (packets (packetsFrom sh xs n k)) s c
+run-none s c sh xs n k e = rw (e, from-none sh xs n) (packets-none s c)
+
+-- there is room for the next packet of k
+pub run-room : {s out : List ℕ} {c next : Cursor} (sh : Shape) (xs : List ℕ) → length xs ≡ sh .w * cells sh → (n j k : ℕ) → n + j ≤ cells sh
+    → j < k → c .at + k * (3 + sh .w) ≤ length s → Laid s c (packets (packetsFrom sh xs n j)) out next → next .at + (3 + sh .w) ≤ length out
+run-room sh xs size n j k few more room l =
+    omega (arith, l .behind, l .put .kept .size, from-bytes sh xs size n j few, stretch-end j k (3 + sh .w) more)
+
+pub run-all : {s out : List ℕ} {c next : Cursor} (sh : Shape) (xs : List ℕ) (n j k : ℕ) → j ≡ k → Laid s c (packets (packetsFrom sh xs n j)) out next
+    → Laid s c (packets (packetsFrom sh xs n k)) out next
+run-all sh xs n j k e l = rw (sym e) l
 
 -- one packet more
-pub packets-more : {s mid after : List ℕ} {c d e : Cursor} (sh : Shape) (xs : List ℕ) (n : ℕ) → Laid s c (packets (firstPackets sh xs n)) mid d
-    → Laid mid d (packetBytes (packetOf sh xs n)) after e → Laid s c (packets (firstPackets sh xs (n + 1))) after e
+pub run-more : {s mid after : List ℕ} {c d e : Cursor} (sh : Shape) (xs : List ℕ) (n k m j : ℕ) → m ≡ n + k → j ≡ k + 1
+    → Laid s c (packets (packetsFrom sh xs n k)) mid d → Laid mid d (packetBytes (packetOf sh xs m)) after e
+    → Laid s c (packets (packetsFrom sh xs n j)) after e
 unfolding packets
-packets-more sh xs n first second =
-    rw (firstPackets-more sh xs n, packets-append (firstPackets sh xs n) (packetOf sh xs n ∷ []), append-nil (packetBytes (packetOf sh xs n)))
-    (laid-laid first second)
-
-pub packets-none : (s : List ℕ) (c : Cursor) (sh : Shape) (xs : List ℕ) → Laid s c (packets (firstPackets sh xs 0)) s c
-unfolding packets firstPackets upFrom
-packets-none s c sh xs = record { put = put-none s (c .at); behind = omega arith }
-
-pub packets-all : {s after : List ℕ} {at : ℕ} (sh : Shape) (xs : List ℕ) (n : ℕ) → n ≡ cells sh → Put s at (packets (firstPackets sh xs n)) after
-    → Put s at (packets (everyPacket sh xs)) after
-unfolding everyPacket
-packets-all sh xs n e p = rw (sym e) p
+run-more sh xs n k m j same next first second =
+    rw (next, from-more sh xs n k)
+    (packets-laid (packetsFrom sh xs n k) (packetOf sh xs (n + k) ∷ []) first (rw (append-nil (packetBytes (packetOf sh xs (n + k))), ← same) second))
 
 -- ---- the three sections
 
-pub sections-laid : {s e after : List ℕ} {c₀ c₁ : Cursor} (sh : Shape) (xs : List ℕ) (count : ℕ) → count ≡ cells sh
-    → length xs ≡ sh .w * cells sh → length s ≡ packSize sh → c₀ .at ≡ 0 → Laid s c₀ (airHead sh count) e c₁
-    → Put e (c₁ .at) (packets (everyPacket sh xs)) after → after ≡ airPack sh (everyPacket sh xs)
-sections-laid {s} {e} {after} {c₀} {c₁} sh xs count same size room start head rest =
-    let last : Laid e c₁ (packets (everyPacket sh xs)) after (record { at = c₁ .at + length (packets (everyPacket sh xs)) })
+-- behind section 1 there is room for two counts, with four bytes more where its count is 9
+pub section-length : (sh : Shape) (n u room : ℕ) → 17 ≤ room → (n ≡ 9 → 21 ≤ room) → length (sectionOne sh n u) + 8 ≤ room
+unfolding sectionOne shapeBytes wordBytes
+section-length sh n u room few many =
+    elim (ℕ-discrete n 9) [
+      | yes nine ↦ rw (eq-eqb n 9 nine) (omega (arith, many nine))
+      | no other ↦ rw (ne-eqb n 9 other) (omega arith)
+    ]
+
+air-headed : {s e : List ℕ} {c₁ : Cursor} {m count : ℕ} (h : Header) → m ≡ count
+    → Laid s (record { at = 0 }) (head h ++ (wordBytes 0 ++ wordBytes count)) e c₁ → Laid s (record { at = 0 }) (airHead h m) e c₁
+unfolding airHead
+air-headed h e l = rw e l
+
+pub sections-laid : {s e after : List ℕ} {c₁ : Cursor} (h : Header) (xs : List ℕ) (count : ℕ) → HeaderSent h
+    → count ≡ number (sends h) (cells (h .shape)) → length xs ≡ h .shape .w * cells (h .shape) → length s ≡ packSize h
+    → Laid s (record { at = 0 }) (sectionOne (h .shape) (h .count) (h .used) ++ (wordBytes 0 ++ wordBytes count)) e c₁
+    → Put e (c₁ .at) (packets (sentPackets h xs)) after → after ≡ airPack h (sentPackets h xs)
+unfolding head
+sections-laid {s} {e} {after} {c₁} h xs count sent same size room start rest =
+    let last : Laid e c₁ (packets (sentPackets h xs)) after (record { at = c₁ .at + length (packets (sentPackets h xs)) })
     = record { put = rest; behind = refl } in
-    let n : length (everyPacket sh xs) ≡ count = everyPacket-length sh xs ∙ sym same in
-    let counted : Laid s c₀ (airHead sh (length (everyPacket sh xs))) e c₁ = rw n head in
-    let parts : airPack sh (everyPacket sh xs) ≡ airHead sh (length (everyPacket sh xs)) ++ packets (everyPacket sh xs)
-    = air-laid sh (everyPacket sh xs) in
-    put-all (rw (start, ← parts) at (laid-laid counted last .put)) (pack-size sh xs size ∙ sym room)
+    let n : length (sentPackets h xs) ≡ count = sentPackets-length h xs ∙ sym same in
+    let counted : Laid s (record { at = 0 }) (airHead h (length (sentPackets h xs))) e c₁ = air-headed h n start in
+    let parts : airPack h (sentPackets h xs) ≡ airHead h (length (sentPackets h xs)) ++ packets (sentPackets h xs) = air-laid h (sentPackets h xs) in
+    put-all (rw (← parts) at (laid-laid counted last .put)) (pack-size h xs (sent .counted) size ∙ sym room)
 
--- ---- the data string
+before-length : (h : Header) → HeaderSent h → (n : ℕ) → length (head h ++ (wordBytes 0 ++ wordBytes n)) ≡ 12 + h .count
+unfolding airHead
+before-length h sent n = airHead-length h n (sent .counted)
 
-pub data-laid : {s mid filed after : List ℕ} {c₀ c₁ c₂ : Cursor} (p : List ℕ) (f : Section) → f .at + f .count ≤ length p
-    → 4 + f .count ≤ length s → c₀ .at ≡ 0 → Laid s c₀ (wordBytes (f .count)) mid c₁ → Laid mid c₁ (take (f .count) (drop (f .at) p)) filed c₂
-    → SetTo filed (c₂ .at) (length filed - c₂ .at) 0 after → after ≡ padded (length s) (fileOf p f)
-unfolding padded fileOf wordBytes
-data-laid {s} {mid} {filed} {after} {c₀} {c₁} {c₂} p f inside room start first second third =
-    let file = take (f .count) (drop (f .at) p) in
-    let n : length file ≡ f .count = part-length p (f .at) (f .count) inside in
-    let sized : length filed ≡ length s = second .put .kept .size ∙ first .put .kept .size in
-    let zeros : length filed - c₂ .at ≡ length s - 4 - length file = omega (arith, first .behind, second .behind) in
-    let last : Laid filed c₂ (replicate (length s - 4 - length file) 0) after (record { at = c₂ .at + length {A = ℕ} (replicate (length s - 4 - length file) 0) })
-    = record { put = rw zeros at (set-put third); behind = refl } in
-    let counted : Laid s c₀ (wordBytes (length file)) mid c₁ = rw n first in
-    let whole = laid-laid counted (laid-laid second last) in
-    put-all (rw start at (whole .put))
-    (omega (arith, length-append file (replicate (length s - 4 - length file) 0), length-replicate {A = ℕ} (length s - 4 - length file) 0))
+-- the pack has room for what stands before its packets, and behind that for them
+pub head-room : (h : Header) → HeaderSent h → (17 ≤ packSize h) × (h .count ≡ 9 → 21 ≤ packSize h)
+unfolding packSize airSize
+head-room h sent = (⊎-elim (λ five. omega arith) (λ nine. omega arith) (sent .counted), λ nine. omega arith)
+
+pub rows-room : {s e : List ℕ} {c₁ : Cursor} (h : Header) → HeaderSent h → (n : ℕ) → n ≡ number (sends h) (cells (h .shape))
+    → Laid s (record { at = 0 }) (sectionOne (h .shape) (h .count) (h .used) ++ (wordBytes 0 ++ wordBytes n)) e c₁ → length s ≡ packSize h
+    → c₁ .at + number (sends h) (cells (h .shape)) * (3 + h .shape .w) ≤ length e
+unfolding packSize airSize head
+rows-room h sent n same l size = omega (arith, l .behind, l .put .kept .size, before-length h sent n)

@@ -13,6 +13,7 @@ use Rattle.shape.specs.Shapes.{Valid, capacity, sizes, shapeChecked}
 use Rattle.shape.proofs.Valid.{shape-passed, valid-passes}
 use Rattle.cursor.specs.declared.Cursor.{Cursor}
 use Rattle.pack.specs.Packs.{airSize}
+use Rattle.pack.specs.Reading.{headerFor}
 use Rattle.pack_writer.specs.declared.PackSize.{PackSize}
 use Rattle.pack_writer.specs.declared.PackSize.the-variants.{Bytes, Refused as NoSize}
 use Rattle.pack_writer.specs.declared.AirStart.the-variants.{Refused as NoStart}
@@ -21,7 +22,7 @@ use Rattle.pack_writer.proofs.Laying.{put-three}
 
 -- ---- the checks
 
-pub air-size-passed : (sh : Shape) (n size : ℕ) → airSizeChecked sh n ≡ passes size → Valid sh × (4 ≤ capacity sh) × (size ≡ airSize sh n)
+pub air-size-passed : (sh : Shape) (n size : ℕ) → airSizeChecked sh n ≡ passes size → Valid sh × (4 ≤ capacity sh) × (size ≡ airSize (headerFor sh) n)
 unfolding airSizeChecked sizes
 air-size-passed sh n size e =
     let (z, passed, rest) = then-passed (shapeChecked sh) _ size e in
@@ -29,7 +30,7 @@ air-size-passed sh n size e =
     let (t, told) = check-passed _ 10 _ size rest in
     (v, rw same at (leb-true 4 (z .capacity) t), sym (passes-injective _ _ told))
 
-pub start-passed : (sh : Shape) (n len : ℕ) → startChecked sh n len ≡ passes tt → Valid sh × (4 ≤ capacity sh) × (len ≡ airSize sh n)
+pub start-passed : (sh : Shape) (n len : ℕ) → startChecked sh n len ≡ passes tt → Valid sh × (4 ≤ capacity sh) × (len ≡ airSize (headerFor sh) n)
 unfolding startChecked
 start-passed sh n len e =
     let (size, passed, rest) = then-passed (airSizeChecked sh n) _ tt e in
@@ -66,11 +67,11 @@ module _ (sh : Shape) (n len size : ℕ) (passed : airSizeChecked sh n ≡ passe
   start-fits same = rw (passed, eq-eqb len size same)
 
 -- a valid shape with room for a file's length passes, where the slice has the pack's length
-pub start-passes : (sh : Shape) (n len : ℕ) → Valid sh → 4 ≤ capacity sh → len ≡ airSize sh n → startChecked sh n len ≡ passes tt
+pub start-passes : (sh : Shape) (n len : ℕ) → Valid sh → 4 ≤ capacity sh → len ≡ airSize (headerFor sh) n → startChecked sh n len ≡ passes tt
 unfolding airSizeChecked andThen check sizes
 start-passes sh n len v room same =
-    let passed : airSizeChecked sh n ≡ passes (airSize sh n) = rw (valid-passes sh v, le-leb 4 (capacity sh) room) in
-    start-fits sh n len (airSize sh n) passed same
+    let passed : airSizeChecked sh n ≡ passes (airSize (headerFor sh) n) = rw (valid-passes sh v, le-leb 4 (capacity sh) room) in
+    start-fits sh n len (airSize (headerFor sh) n) passed same
 
 -- ---- `write_coordinates`
 

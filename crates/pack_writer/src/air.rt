@@ -1,4 +1,4 @@
-// Writing an air pack of any packets part by part: its size, what stands before the packets, and how each packet begins.
+// Writing an air pack of any packets part by part, with count 5: its size, what stands before the packets, and how each packet begins.
 use crate::AirStart;
 use crate::PackSize;
 use crate::writing::put_count;
@@ -10,11 +10,13 @@ use cursor::Cursor;
 use shape::Measured;
 use shape::Shape;
 ghost use mathlib.Core.Path.{_≡_};
-ghost use Prim.Native.Nat.{_≤_};
+ghost use mathlib.Core.List.{_++_};
+ghost use Prim.Native.Nat.{_+_, _≤_};
 ghost use lib.ListN.{length};
 ghost use Rattle.answer.specs.Values.{checked};
 ghost use Rattle.shape.specs.Shapes.{Valid};
-ghost use Rattle.pack.specs.Packs.{airHead};
+ghost use Rattle.cursor.specs.Steps.{wordBytes};
+ghost use Rattle.pack.specs.Packs.{sectionOne};
 ghost use Rattle.pack_writer.specs.Writing.{airSizeChecked, sizeValue, startValue, StartOutcome, CoordinatesOutcome, Laid};
 
 // The bytes of an air pack with so many packets.
@@ -27,7 +29,7 @@ pub fn air_bytes(sh: Shape, packets: u32) -> PackSize
             if z.capacity < 4 {
                 return PackSize::Refused(Refusal::Plain(Fault::Capacity));
             }
-            PackSize::Bytes(size_of(packets as usize, sh.w))
+            PackSize::Bytes(size_of(5, packets as usize, sh.w))
         }
     }
 }
@@ -42,21 +44,39 @@ pub fn start_air(out: &mut [u8], sh: Shape, packets: u32) -> AirStart
             if out.len() != n {
                 return AirStart::Refused(Refusal::Plain(Fault::SliceLength));
             }
-            AirStart::Started(put_head(out, sh, packets as usize))
+            AirStart::Started(put_head(out, sh, 5, 0, packets as usize))
         }
     }
 }
 
 // Section 1, section 2 without a file, and the count of section 3.
-pub(crate) fn put_head(out: &mut [u8], sh: Shape, packets: usize) -> Cursor
-    requires { ⌜ Valid sh × (17 ≤ length (now out)) ⌝ }
-    ensures { λ r. ⌜ Laid (now (out .entry)) (record { at = 0 }) (airHead sh packets) (now (out .exit)) r ⌝ }
+pub(crate) fn put_head(
+    out: &mut [u8],
+    sh: Shape,
+    count: usize,
+    used: usize,
+    packets: usize,
+) -> Cursor
+    requires { ⌜ Valid sh × (17 ≤ length (now out)) × (count ≡ 9 → 21 ≤ length (now out)) ⌝ }
+    ensures { λ r. ⌜ Laid (now (out .entry)) (record { at = 0 }) (sectionOne sh count used ++ (wordBytes 0 ++ wordBytes packets)) (now (out .exit)) r ⌝ }
 {
-    let start = Cursor { at: 0 };
-    let body = put_count(start, out, 5);
-    let second = put_shape(out, body, sh);
+    let second = put_section(out, sh, count, used);
     let third = put_count(second, out, 0);
     put_count(third, out, packets)
+}
+
+// Section 1 behind its count: the shape, and with count 9 the data cells in use.
+fn put_section(out: &mut [u8], sh: Shape, count: usize, used: usize) -> Cursor
+    requires { ⌜ Valid sh × (9 ≤ length (now out)) × (count ≡ 9 → 13 ≤ length (now out)) ⌝ }
+    ensures { λ r. ⌜ Laid (now (out .entry)) (record { at = 0 }) (sectionOne sh count used) (now (out .exit)) r ⌝ }
+{
+    let start = Cursor { at: 0 };
+    let body = put_count(start, out, count);
+    let behind = put_shape(out, body, sh);
+    if count == 9 {
+        return put_count(behind, out, used);
+    }
+    behind
 }
 
 // Writes a packet's a, b and c at the cursor, and answers the cursor behind them; where they don't fit, nothing changes.

@@ -1,5 +1,5 @@
-// Writing packs, each part from the byte where the one before ended: the bytes that a pack needs, the air pack of every cell of a cube, one of any packets
-// part by part, and the data string of a file.
+// Writing packs, each part from the byte where the one before ended: the bytes that a pack needs, the air pack of every cell of a cube that is sent, and one
+// of any packets part by part.
 mod air;
 mod writing;
 
@@ -10,7 +10,7 @@ use answer::Refusal;
 use cursor::Cursor;
 pub use writing::pack_bytes;
 pub use writing::write_air;
-pub use writing::write_data;
+pub use writing::written_bytes;
 
 // The cursor behind what stands before the packets of an air pack.
 pub enum AirStart {
@@ -18,7 +18,7 @@ pub enum AirStart {
     Refused(Refusal),
 }
 
-// The bytes of a pack with every cell, or with so many packets.
+// The bytes of a pack with every cell that is sent, or with so many packets.
 pub enum PackSize {
     Bytes(usize),
     Refused(Refusal),

@@ -6,6 +6,7 @@ use Rattle.answer.specs.Values.{refusal, check, checked, andThen}
 use Rattle.answer.proofs.Values.{then-refused}
 use Rattle.shape.proofs.Valid.{measure-fits, measure-refused}
 use Rattle.pack.specs.Packs.{airSize}
+use Rattle.pack.specs.Reading.{headerWith, headerFor}
 use Rattle.pack_writer.specs.Writing.{airSizeChecked, sizeValue}
 use Rattle.pack_writer.proofs.Outcomes.{sizes-small}
 use borrow.Author.Needs.{needs}
@@ -28,14 +29,14 @@ returns c = rw (measure-fits _ _ _ (c .before .before .before .before .before .m
 size-of-requires : tie.Need-size-of-requires
 size-of-requires c κs =
     let fits = c .before .before .before in
-    (omega arith, sizes-small _ _ (measure-fits _ _ _ (fits .before .before .measure .ensures) (fits .z .given .1)) .1)
+    (omega arith, omega arith, sizes-small _ _ (measure-fits _ _ _ (fits .before .before .measure .ensures) (fits .z .given .1)) .1)
 
 returns-2 : tie.Need-returns-2
 unfolding airSizeChecked sizeValue
 returns-2 c = then-refused _ _ _ (measure-refused _ _ _ (c .before .before .before .measure .ensures) (c .before .f .given .1))
 
 returns-3 : tie.Need-returns-3
-unfolding airSizeChecked airSize sizeValue check checked andThen
+unfolding airSizeChecked airSize headerFor headerWith sizeValue check checked andThen
 returns-3 c =
     let fits = c .before .before .before .before in
     rw (

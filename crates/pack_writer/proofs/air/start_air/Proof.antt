@@ -5,7 +5,8 @@ use denote.Ref.{now}
 use native.Mathlib.Omega.{arith}
 use Rattle.answer.specs.Refusals.{faultNumber}
 use Rattle.answer.specs.Values.{refusal}
-use Rattle.pack.specs.Packs.{airSize}
+use Rattle.pack.specs.Packs.{sectionOne, head, airHead, airSize}
+use Rattle.pack.specs.Reading.{headerWith, headerFor}
 use Rattle.pack_writer.specs.Writing.{startValue, start-refused, started}
 use Rattle.pack_writer.proofs.Starting.{air-size-passed, air-size-given, air-size-refused, start-unfit, start-short, start-fits}
 use borrow.Author.Needs.{needs}
@@ -31,12 +32,12 @@ returns c =
     start-refused 4 (start-short _ _ (length (now (given .before .before .before .before .args .out))) _ passed (λ e. omega (arith, c .if1 .taken))) refl
 
 put-head-requires : tie.Need-put-head-requires
-unfolding airSize
+unfolding airSize headerFor headerWith
 put-head-requires c κs =
     let given = c .before .before .before in
     let passed = air-size-given _ _ _ (given .before .before .air-bytes .ensures) _ (given .n .given .1) in
     let (v, _, size) = air-size-passed _ _ _ passed in
-    (v, omega (arith, size, c .before .if1 .left))
+    (v, omega (arith, size, c .before .if1 .left), λ nine. absurd (omega arith))
 
 returns-2 : tie.Need-returns-2
 returns-2 c = start-unfit _ _ _ _ (air-size-refused _ _ _ (c .before .before .before .air-bytes .ensures) _ (c .before .f .given .1))
@@ -45,7 +46,7 @@ same-length : tie.Need-same-length
 same-length c = search needs
 
 returns-3 : tie.Need-returns-3
-unfolding startValue
+unfolding startValue airHead head sectionOne headerFor headerWith
 returns-3 c =
     let headed = c .before .before in
     let given = headed .before .before .before .before in

@@ -4,6 +4,7 @@ use Rattle.answer.proofs.Values.{then-refused}
 use Rattle.shape.proofs.Valid.{measure-fits, measure-refused}
 use Rattle.pack_writer.specs.Writing.{sizeChecked, sizeValue}
 use Rattle.pack_writer.proofs.Outcomes.{sizes-small, size-told}
+use native.Mathlib.Omega.{arith}
 use borrow.Author.Needs.{needs}
 use Rattle.pack_writer.proofs.writing.pack_bytes.Statement.{statement}
 use Rattle.pack_writer.proofs.writing.pack_bytes.Tie as tie
@@ -18,7 +19,9 @@ enum-known-z : tie.Need-enum-known-z
 enum-known-z c = search needs
 
 size-of-requires : tie.Need-size-of-requires
-size-of-requires c κs = sizes-small _ _ (measure-fits _ _ _ (c .before .before .before .measure .ensures) (c .before .z .given .1))
+size-of-requires c κs =
+    let (few, high) = sizes-small _ _ (measure-fits _ _ _ (c .before .before .before .measure .ensures) (c .before .z .given .1)) in
+    (omega arith, few, high)
 
 returns : tie.Need-returns
 unfolding sizeChecked sizeValue

@@ -1,55 +1,55 @@
 -- `pack_writer::writing::write_sections` meets its contract. Assumes nothing.
-use mathlib.Core.Path.{refl}
+use mathlib.Core.Path.{_≡_, sym, _∙_}
+use mathlib.Core.Logic.{⊎-elim}
 use native.Mathlib.Omega.{arith}
-use Rattle.shape.specs.Shapes.{cells}
-use Rattle.shape.proofs.Valid.{area-le, volume-le}
-use Rattle.pack.specs.Packs.{airSize, packSize}
-use Rattle.pack.proofs.AirPacks.{airHead-length}
-use Rattle.pack_writer.proofs.Laying.{sections-laid}
 use borrow.Author.Needs.{needs}
+use Rattle.pack.proofs.Sound.{sent-told, sent-not, sent-passed}
+use Rattle.pack_writer.proofs.Laying.{sections-laid, head-room, rows-room}
 use Rattle.pack_writer.proofs.writing.write_sections.Statement.{statement}
 use Rattle.pack_writer.proofs.writing.write_sections.Tie as tie
 
-mul-count : tie.Need-mul-count
-mul-count c = omega (arith, area-le _ _ (c .before .before .before .pre .0 .l1-high) (c .before .before .before .pre .0 .l2-high))
+sent-cells-requires : tie.Need-sent-cells-requires
+sent-cells-requires c κs = search needs
 
-mul-count-2 : tie.Need-mul-count-2
-mul-count-2 c =
-    let v = c .before .before .before .before .pre .0 in
-    omega (arith, volume-le _ _ _ (v .l1-high) (v .l2-high) (v .l3-high))
+enum-known-sent : tie.Need-enum-known-sent
+enum-known-sent c = search needs
+
+enum-told : tie.Need-enum-told
+enum-told c = search needs
+
+returns : tie.Need-returns
+returns c = absurd (sent-not _ (c .before .before .before .before .before .pre .0) _ (c .before .before .sent-cells .ensures) _ (c .enum-told .given .1))
 
 put-head-requires : tie.Need-put-head-requires
-unfolding packSize airSize
 put-head-requires c κs =
-    let s = c .before .before .before .before .before in
-    (s .pre .0, omega (arith, s .pre .2))
+    let s = c .before .before .before .before .before .before .before in
+    let (few, many) = head-room (s .args .h) (s .pre .0) in
+    (s .pre .0 .valid, omega (arith, few, s .pre .2), λ nine. omega (arith, many nine, s .pre .2))
 
-put-packets-requires : tie.Need-put-packets-requires
-unfolding packSize airSize cells
-put-packets-requires c κs =
-    let head = c .before .before .before in
-    let s = head .before .before .before .before .before .before in
-    let l = head .put-head .ensures in
-    (s .pre .0, refl, s .pre .1, omega (arith, l .behind, l .put .kept .size, s .pre .2, airHead-length (s .args .sh) (cells (s .args .sh))))
+put-rows-requires : tie.Need-put-rows-requires
+put-rows-requires c κs =
+    let s = c .before .before .before .before .before .before .before .before .before .before .before in
+    let n = sent-passed _ _ (sent-told _ _ (c .before .before .before .before .before .before .before .before .sent-cells .ensures) _ (c .before .before .before .before .before .before .sent .given .1)) .1 in
+    (s .pre .0, s .pre .1, rows-room (s .args .h) (s .pre .0) _ n (c .before .before .before .put-head .ensures) (s .pre .2))
 
 same-length : tie.Need-same-length
 same-length c = search needs
 
-returns : tie.Need-returns
-unfolding cells
-returns c =
-    let rest = c .before .before in
-    let head = rest .before .before .before .before in
-    let s = head .before .before .before .before .before .before in
-    sections-laid (s .args .sh) (s .args .cube .now) _ refl (s .pre .1) (s .pre .2) refl (head .put-head .ensures) (rest .put-packets .ensures)
+returns-2 : tie.Need-returns-2
+returns-2 c =
+    let s = c .before .before .before .before .before .before .before .before .before .before .before .before .before .before in
+    let n = sent-passed _ _ (sent-told _ _ (c .before .before .before .before .before .before .before .before .before .before .before .sent-cells .ensures) _ (c .before .before .before .before .before .before .before .before .before .sent .given .1)) .1 in
+    sections-laid (s .args .h) (s .args .cube .now) _ (s .pre .0) n (s .pre .1) (s .pre .2) (c .before .before .before .before .before .before .put-head .ensures) (c .before .before .put-rows .ensures)
 
 pub write-sections-spec : {M : Type 1} → statement M
 write-sections-spec =
     tie.close
     (tie.spec
-    mul-count
-    mul-count-2
+    sent-cells-requires
+    enum-known-sent
+    enum-told
+    returns
     put-head-requires
-    put-packets-requires
+    put-rows-requires
     same-length
-    returns)
+    returns-2)
