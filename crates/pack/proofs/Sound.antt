@@ -75,7 +75,7 @@ count-five-nine n e =
 pub count-least : (n : ℕ) → isCount n ≡ true → 5 ≤ n
 count-least n e = ⊎-elim (λ five. omega arith) (λ nine. omega arith) (count-five-nine n e)
 
-used-plain : (sh : Shape) (n u : ℕ) → n ≡ 5 → usedBy sh n u ≡ dataCells sh
+pub used-plain : (sh : Shape) (n u : ℕ) → n ≡ 5 → usedBy sh n u ≡ dataCells sh
 unfolding usedBy
 used-plain sh n u e = rw e
 
@@ -111,7 +111,7 @@ header-sound p h c e =
     let (_, read) = bytes-passed p (record { at = 4 }) (h, c) _ _ needed in
     headed-sound _ _ _ _ h c (count-five-nine (word p 0) t) read
 
-data-some : (sh : Shape) → Valid sh → 1 ≤ dataCells sh
+pub data-some : (sh : Shape) → Valid sh → 1 ≤ dataCells sh
 unfolding dataCells
 data-some sh v =
     let a : 0 < sh .l1 - 2 = omega (arith, v .l1-low) in
