@@ -38,7 +38,7 @@ module _ {r : ℕ} where
   none-filled : {sh : Shape} {xs fs xs′ fs′ : List ℕ} {v : Value CellsLeft} → FillOutcome r sh xs fs xs′ fs′ v → length fs ≡ cells sh
       → v ≡ gives (CellsLeft.left 0) → (i : ℕ) → getD fs′ i 0 ≢ 1
   none-filled (fill-refused _ _ _ _) size q = let z : _≡_ {A = ℕ} 0 1 = cc in absurd (omega arith)
-  none-filled {sh} {xs} {fs} {xs′} {fs′} (fill-done _ kept _ _ _) size q = none-counted fs′ (cells sh) (kept ∙ size) cc
+  none-filled {sh} {xs} {fs} {xs′} {fs′} (fill-done _ g _ _) size q = none-counted fs′ (cells sh) (g .size ∙ size) cc
   none-filled (fill-contradiction _ _ _ _ _ _) size q = let z : _≡_ {A = ℕ} 0 1 = cc in absurd (omega arith)
 
   none-gathered : {p : List ℕ} {checks : Checked (Header × Section)} {xs fs xs′ fs′ : List ℕ} {g : Gathered} {k : Counts} → GatherOutcome r p checks xs fs xs′ fs′ g k

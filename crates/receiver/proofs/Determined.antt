@@ -4,6 +4,7 @@
 use mathlib.Core.Path.{_≡_, refl, sym, ap, _∙_}
 use mathlib.Core.Bool.{Bool, true, false, cond, true≢false}
 use mathlib.Core.List.{List, _++_}
+use mathlib.Core.Logic.{⊎-elim}
 use Prim.Native.Nat.{ℕ, zero, suc, _-_, _^_, _≤_, _<_}
 use native.Mathlib.Decide.{decLt}
 use native.Mathlib.Omega.{arith}
@@ -17,13 +18,14 @@ use Rattle.shape.specs.declared.Shape.{Shape}
 use Rattle.shape.specs.Shapes.{Valid, cells, capacity}
 use Rattle.shape.specs.Flags.{missing}
 use Rattle.data.specs.Data.{layer, heldData}
+use Rattle.stopping.proofs.Number.{true-or-false}
 use Rattle.fill.specs.Fill.{CellsLeft, FillOutcome}
 use Rattle.fill.specs.Theorems.{SameKnown}
 use Rattle.fill.proofs.Unique.{Same, outcome-determined, outcome-known}
 use Rattle.pack.specs.declared.Header.{Header}
 use Rattle.pack.specs.declared.Section.{Section}
 use Rattle.cursor.specs.Steps.{word}
-use Rattle.pack.specs.Packs.{dataString}
+use Rattle.pack.specs.Packs.{dataString, unsent}
 use Rattle.pack.specs.Packets.{Source, source, InRange}
 use Rattle.receiver.specs.declared.Counts.{Counts}
 use Rattle.receiver.specs.Placing.{agreed, flagAt, Placed}
@@ -38,39 +40,43 @@ use Rattle.pack.proofs.DataStrings.{capacity-le, data-word, data-later, data-in
 
 -- ---- placing
 
--- a cell that is not missing came, and its copies are all equal
-pub placed-agreed : {sh : Shape} {s : Source} {n : ℕ} {xs fs : List ℕ} → Placed sh s n xs fs → (m : ℕ) → m < cells sh → missing fs m ≡ false
-    → agreed sh s n m ≡ true
+-- a cell that is sent and not missing came, and its copies are all equal
+pub placed-agreed : {h : Header} {s : Source} {n : ℕ} {xs fs : List ℕ} → Placed h s n xs fs → (m : ℕ) → m < cells (h .shape) → unsent h m ≡ false
+    → missing fs m ≡ false → agreed (h .shape) s n m ≡ true
 unfolding missing flagAt
-placed-agreed {sh} {s} {n} {xs} {fs} placed m l e = known (agreed sh s n m) (rw (placed .flags m l) at e)
+placed-agreed {h} {s} {n} {xs} {fs} placed m l sent e = known (agreed (h .shape) s n m) (rw (placed .flags m l, sent) at e)
   where
     known : (b : Bool) → eqb (cond b 0 1) 1 ≡ false → b ≡ true
     known true f = refl
     known false f = absurd (true≢false f)
 
 -- the packets determine the flags
-pub placed-flags : {sh : Shape} {s : Source} {n : ℕ} {xs fs ys gs : List ℕ} → Placed sh s n xs fs → Placed sh s n ys gs → fs ≡ gs
-placed-flags {sh} {s} {n} {xs} {fs} {ys} {gs} a b =
+pub placed-flags : {h : Header} {s : Source} {n : ℕ} {xs fs ys gs : List ℕ} → Placed h s n xs fs → Placed h s n ys gs → fs ≡ gs
+placed-flags {h} {s} {n} {xs} {fs} {ys} {gs} a b =
     ext-getD 0 fs gs (a .flags-size ∙ sym (b .flags-size))
-    (λ m l. let less : m < cells sh = omega (arith, a .flags-size) in a .flags m less ∙ sym (b .flags m less))
+    (λ m l. let less : m < cells (h .shape) = omega (arith, a .flags-size) in a .flags m less ∙ sym (b .flags m less))
 
--- and the bytes of known cells
-pub placed-known : {sh : Shape} {s : Source} {n : ℕ} {xs fs ys gs : List ℕ} → Placed sh s n xs fs → Placed sh s n ys gs → SameKnown sh (missing fs) xs ys
-placed-known {sh} {s} {n} {xs} {fs} {ys} {gs} a b =
+-- and the bytes of known cells: those of unsent cells are 00h, those of the others came
+pub placed-known : {h : Header} {s : Source} {n : ℕ} {xs fs ys gs : List ℕ} → Placed h s n xs fs → Placed h s n ys gs
+    → SameKnown (h .shape) (missing fs) xs ys
+placed-known {h} {s} {n} {xs} {fs} {ys} {gs} a b =
     record {
       size = a .cube-size ∙ sym (b .cube-size);
-      known = λ m w l h e.
-          let equal = placed-agreed a m l e in
-          let (i, less, same) = among-earlier s n m (agreed-then sh s n m equal .came) in
-          let here : agreed sh s n (s .place i) ≡ true = ap (agreed sh s n) same ∙ equal in
-          ap (layer sh xs w) (sym same) ∙ a .bytes i less here w h ∙ sym (b .bytes i less here w h) ∙ ap (layer sh ys w) same;
+      known = λ m w l lw e.
+          ⊎-elim (λ (out : unsent h m ≡ true). a .blank m w l lw out ∙ sym (b .blank m w l lw out))
+          (λ (sent : unsent h m ≡ false).
+          let equal = placed-agreed a m l sent e in
+          let (i, less, same) = among-earlier s n m (agreed-then (h .shape) s n m equal .came) in
+          let here : agreed (h .shape) s n (s .place i) ≡ true = ap (agreed (h .shape) s n) same ∙ equal in
+          ap (layer (h .shape) xs w) (sym same) ∙ a .bytes i less here w lw ∙ sym (b .bytes i less here w lw) ∙ ap (layer (h .shape) ys w) same)
+          (true-or-false (unsent h m));
     }
 
 -- so they determine what filling answers and leaves
-filled-same : {r : ℕ} {sh : Shape} {s : Source} {n : ℕ} {xs fs xs₂ fs₂ ys gs zs hs : List ℕ} {a b : Value CellsLeft} → Primitive r → Valid sh
-    → Placed sh s n xs fs → Placed sh s n xs₂ fs₂ → FillOutcome r sh xs fs ys gs a → FillOutcome r sh xs₂ fs₂ zs hs b → Same a b ys zs gs hs
-filled-same {r} {sh} {s} {n} {xs} {fs} primitive v p q o o′ =
-    outcome-determined primitive (outcome-known (placed-known p q) (placed-checked sh s n xs fs v p) o) (rw (placed-flags q p) at o′)
+filled-same : {r : ℕ} {h : Header} {s : Source} {n : ℕ} {xs fs xs₂ fs₂ ys gs zs hs : List ℕ} {a b : Value CellsLeft} → Primitive r → Valid (h .shape)
+    → Placed h s n xs fs → Placed h s n xs₂ fs₂ → FillOutcome r (h .shape) xs fs ys gs a → FillOutcome r (h .shape) xs₂ fs₂ zs hs b → Same a b ys zs gs hs
+filled-same {r} {h} {s} {n} {xs} {fs} primitive v p q o o′ =
+    outcome-determined primitive (outcome-known (placed-known p q) (placed-checked h s n xs fs v p) o) (rw (placed-flags q p) at o′)
 
 -- ---- gathering
 

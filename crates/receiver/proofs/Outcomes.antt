@@ -1,12 +1,12 @@
 -- The outcome of a pack: what its checks give once they pass, and the answer that each end of the code gives.
 use mathlib.Core.Path.{_≡_, refl, sym, ap, _∙_}
 use mathlib.Core.Bool.{Bool, true, false}
-use mathlib.Core.List.{List, [], _∷_}
-use Prim.Native.Nat.{ℕ, suc, _-_, _*_, _≤_, _<_}
+use mathlib.Core.List.{List}
+use Prim.Native.Nat.{ℕ, _-_, _*_, _≤_, _<_}
 use native.Mathlib.Omega.{arith}
-use lib.Dec.{eqb, leb}
-use lib.ListN.{length, getD}
-use borrow.Author.Tests.{eq-eqb, eqb-true, le-leb}
+use lib.Dec.{eqb}
+use lib.ListN.{length}
+use borrow.Author.Tests.{eq-eqb, eqb-true}
 use Rattle.answer.specs.declared.Fault.the-variants.{SliceLength, Contradiction, FileLength}
 use Rattle.answer.specs.declared.PacketFault.the-variants.{CellIndex}
 use Rattle.answer.specs.declared.Refusal.{Refusal}
@@ -19,6 +19,7 @@ use Rattle.shape.specs.declared.Shape.{Shape}
 use Rattle.shape.specs.declared.Sizes.{Sizes}
 use Rattle.shape.specs.Shapes.{Valid, both, cells, capacity, sizes}
 use Rattle.shape.specs.Flags.{flagsValid}
+use Rattle.shape.proofs.Missing.{flags-valid}
 use Rattle.shape.proofs.Valid.{both-parts, both-true, valid-passes}
 use Rattle.fill.specs.declared.FillAnswer.{FillAnswer}
 use Rattle.fill.specs.declared.FillAnswer.the-variants.{Left as Stays, Refused as Unfilled}
@@ -80,32 +81,27 @@ accepted-ready p m h s e =
 
 -- ---- the filling
 
--- placed flags are 0 or 1
-flags-listed : (fs : List ℕ) → ((m : ℕ) → m < length fs → getD fs m 0 ≤ 1) → flagsValid fs ≡ true
-unfolding flagsValid
-flags-listed [] h = refl
-flags-listed (f ∷ fs) h =
-    both-true (leb f 1) (flagsValid fs) (le-leb f 1 (h 0 (omega arith))) (flags-listed fs (λ m l. h (suc m) (omega arith)))
-
-pub placed-valid : (sh : Shape) (s : Source) (n : ℕ) (xs fs : List ℕ) → Placed sh s n xs fs → flagsValid fs ≡ true
-placed-valid sh s n xs fs placed = flags-listed fs (λ m l. rw (placed .flags m (omega (arith, placed .flags-size))) (flag-le sh s n m))
+-- placed flags are 0, 1 or 2
+pub placed-valid : (h : Header) (s : Source) (n : ℕ) (xs fs : List ℕ) → Placed h s n xs fs → flagsValid fs ≡ true
+placed-valid h s n xs fs placed = flags-valid fs (λ m l. rw (placed .flags m (omega (arith, placed .flags-size))) (flag-le h s n m))
 
 -- so they pass the filling's checks
-pub placed-checked : (sh : Shape) (s : Source) (n : ℕ) (xs fs : List ℕ) → Valid sh → Placed sh s n xs fs
-    → flagsChecked sh (length xs) fs ≡ passes tt
+pub placed-checked : (h : Header) (s : Source) (n : ℕ) (xs fs : List ℕ) → Valid (h .shape) → Placed h s n xs fs
+    → flagsChecked (h .shape) (length xs) fs ≡ passes tt
 unfolding flagsChecked sizes andThen check
-placed-checked sh s n xs fs v placed =
+placed-checked h s n xs fs v placed =
     rw (
-      valid-passes sh v,
-      both-true (eqb (length xs) (sh .w * cells sh)) (eqb (length fs) (cells sh)) (eq-eqb _ _ (placed .cube-size)) (eq-eqb _ _ (placed .flags-size)),
-      placed-valid sh s n xs fs placed,
+      valid-passes (h .shape) v,
+      both-true (eqb (length xs) (h .shape .w * cells (h .shape))) (eqb (length fs) (cells (h .shape))) (eq-eqb _ _ (placed .cube-size))
+          (eq-eqb _ _ (placed .flags-size)),
+      placed-valid h s n xs fs placed,
     )
 
 -- and where no cells are left to tell, 13 is
 not-left-13 : (sh : Shape) (xs fs ys gs : List ℕ) (v : Value CellsLeft) → flagsChecked sh (length xs) fs ≡ passes tt → FillOutcome reduction sh xs fs ys gs v
     → ((k : ℕ) → v ≡ gives (CellsLeft.left k) → ⊥) → FillOutcome reduction sh xs fs ys gs (refused 13)
 not-left-13 sh xs fs ys gs _ done (FillOutcome.fill-refused n failed a b) never = absurd (done-refused done failed)
-not-left-13 sh xs fs ys gs _ done (FillOutcome.fill-done a b c d g) never = absurd (never _ refl)
+not-left-13 sh xs fs ys gs _ done (FillOutcome.fill-done a b c d) never = absurd (never _ refl)
 not-left-13 sh xs fs ys gs _ done (FillOutcome.fill-contradiction a k b c d g) never = FillOutcome.fill-contradiction a k b c d g
 
 pub refused-13 : (sh : Shape) (xs fs ys gs : List ℕ) (a : FillAnswer) (f : Refusal) → flagsChecked sh (length xs) fs ≡ passes tt

@@ -30,10 +30,10 @@ countsOf sh s = record { packets = s .count; repeats = repeatsOf s (s .count); c
 unfoldable pub noCounts : Counts
 noCounts = record { packets = 0; repeats = 0; conflicts = 0 }
 
--- Every packet names a cell (11), and the packets stand in xs₁ and fs₁.
+-- Every packet names a cell that is sent (11), and the packets stand in xs₁ and fs₁.
 pub record Taken (p : List ℕ) (h : Header) (s : Section) (xs₁ fs₁ : List ℕ) : Type 0 where
   pub indexes : (i : ℕ) → i < s .count → InRange p h s i
-  pub placed : Placed (h .shape) (source p h s) (s .count) xs₁ fs₁
+  pub placed : Placed h (source p h s) (s .count) xs₁ fs₁
 
 -- What a pack whose checks come to `checks` gives, and leaves in the cube and the flags.
 pub data GatherOutcome (r : ℕ) (p : List ℕ) (checks : Checked (Header × Section)) (xs fs xs′ fs′ : List ℕ) : Gathered → Counts → Type 0 where
@@ -41,13 +41,13 @@ pub data GatherOutcome (r : ℕ) (p : List ℕ) (checks : Checked (Header × Sec
   unfit :
       (n : ℕ) → checks ≡ fails n → xs′ ≡ xs → fs′ ≡ fs →
       GatherOutcome r p checks xs fs xs′ fs′ (ends (refused n)) noCounts
-  -- "a, b or c not below its length". "All indexes are checked (11) before any packet is placed."
+  -- "a, b or c not below its length"; request P5: "A packet for an unsent cell meets 11." "All indexes are checked (11) before any packet is placed."
   index :
       (h : Header) (s : Section) → checks ≡ passes (h, s) →
       (i : ℕ) → i < s .count → (InRange p h s i → ⊥) → ((j : ℕ) → j < i → InRange p h s j) →
       xs′ ≡ xs → fs′ ≡ fs →
       GatherOutcome r p checks xs fs xs′ fs′ (ends (refused-at 11 i)) noCounts
-  -- "no filling exists"
+  -- "no filling exists": the agreed packets stand, all else is 00h; flags are 0 where agreed, 2 where unsent, else 1
   contradiction :
       (h : Header) (s : Section) → checks ≡ passes (h, s) → (xs₁ fs₁ : List ℕ) → Taken p h s xs₁ fs₁ →
       FillOutcome r (h .shape) xs₁ fs₁ xs′ fs′ (refused 13) →

@@ -1,4 +1,4 @@
--- Packets placed one after another (document 01, "Packs"; request P3): a sequence of packets, each with the cell it names and its bytes.
+-- Packets placed one after another (document 01, "Packs"; requests P3 and P5): a sequence of packets, each with the cell it names and its bytes.
 use mathlib.Core.Path.{_≡_}
 use mathlib.Core.Bool.{Bool, true, false, cond, not}
 use mathlib.Core.List.{List}
@@ -9,6 +9,8 @@ use Rattle.shape.specs.declared.Shape.{Shape}
 use Rattle.shape.specs.Shapes.{both, cells}
 use Rattle.data.specs.Data.{layer}
 use Rattle.stopping.specs.Stopping.{number}
+use Rattle.pack.specs.declared.Header.{Header}
+use Rattle.pack.specs.Packs.{unsent}
 use Rattle.pack.specs.Packets.{Source}
 
 -- one of the first n packets names cell m
@@ -43,17 +45,21 @@ unfoldable pub conflictsOf : Shape → Source → ℕ → ℕ
 conflictsOf sh s n = number (conflicting sh s n) (cells sh)
 
 -- The flag of cell m once n packets are placed, 0 known, 1 missing: "A cell whose copies are not all equal is now missing, whichever came first,
--- and a third copy does not rescue it."
-unfoldable pub flagAt : Shape → Source → ℕ → ℕ → ℕ
-flagAt sh s n m = cond (agreed sh s n m) 0 1
+-- and a third copy does not rescue it." Request P5: unsent cells are "known from the start", and "Flags gain 2, known and unsent".
+unfoldable pub flagAt : Header → Source → ℕ → ℕ → ℕ
+flagAt h s n m = cond (unsent h m) 2 (cond (agreed (h .shape) s n m) 0 1)
 
--- A cube and flags once n packets are placed, where the flag of cell m is `flag m`. What cells hold that are not agreed on does not matter.
-pub record Standing (sh : Shape) (s : Source) (n : ℕ) (flag : ℕ → ℕ) (xs fs : List ℕ) : Type 0 where
-  pub cube-size : length xs ≡ sh .w * cells sh
-  pub flags-size : length fs ≡ cells sh
-  pub flags : (m : ℕ) → m < cells sh → getD fs m 0 ≡ flag m
-  pub bytes : (i : ℕ) → i < n → agreed sh s n (s .place i) ≡ true → (w : ℕ) → w < sh .w → layer sh xs w (s .place i) ≡ s .byte i w
+-- A cube and flags once n packets are placed, where the flag of cell m is `flag m`. Unsent cells "are 00h". What cells hold that are sent but not
+-- agreed on does not matter.
+pub record Standing (h : Header) (s : Source) (n : ℕ) (flag : ℕ → ℕ) (xs fs : List ℕ) : Type 0 where
+  pub cube-size : length xs ≡ h .shape .w * cells (h .shape)
+  pub flags-size : length fs ≡ cells (h .shape)
+  pub flags : (m : ℕ) → m < cells (h .shape) → getD fs m 0 ≡ flag m
+  pub bytes :
+      (i : ℕ) → i < n → agreed (h .shape) s n (s .place i) ≡ true →
+      (w : ℕ) → w < h .shape .w → layer (h .shape) xs w (s .place i) ≡ s .byte i w
+  pub blank : (m w : ℕ) → m < cells (h .shape) → w < h .shape .w → unsent h m ≡ true → layer (h .shape) xs w m ≡ 0
 
--- "starts with all cells missing, places packets"
-abbrev pub Placed : Shape → Source → ℕ → List ℕ → List ℕ → Type 0
-Placed sh s n = Standing sh s n (flagAt sh s n)
+-- "starts with all cells missing" that are sent, "places packets"
+abbrev pub Placed : Header → Source → ℕ → List ℕ → List ℕ → Type 0
+Placed h s n = Standing h s n (flagAt h s n)

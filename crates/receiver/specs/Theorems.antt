@@ -1,16 +1,18 @@
--- What document 01 and request P3 say of the receiver, as theorems about the definitions; proofs/Determined.antt, proofs/NoPackets.antt and
+-- What document 01 and the requests P3 and P5 say of the receiver, as theorems about the definitions; proofs/Determined.antt, proofs/NoPackets.antt and
 -- proofs/Copies.antt have the proofs. r is a byte whose polynomial is primitive.
 use mathlib.Core.Path.{_≡_}
-use mathlib.Core.Bool.{true}
+use mathlib.Core.Bool.{Bool, true}
 use mathlib.Core.List.{List}
 use mathlib.Core.Logic.{_↔_}
 use Prim.Native.Nat.{ℕ, _≤_, _<_}
 use Rattle.answer.specs.Values.{Value, gives, passes}
 use Rattle.field.specs.Field.{Primitive}
 use Rattle.shape.specs.declared.Shape.{Shape}
-use Rattle.shape.specs.Shapes.{cells}
+use Rattle.shape.specs.Shapes.{cells, dataCells, IsLine}
+use Rattle.stopping.specs.Stopping.{number, Largest}
 use Rattle.pack.specs.declared.Header.{Header}
 use Rattle.pack.specs.declared.Section.{Section}
+use Rattle.pack.specs.Packs.{sends}
 use Rattle.pack.specs.Packets.{Source}
 use Rattle.receiver.specs.declared.Counts.{Counts}
 use Rattle.receiver.specs.Placing.{among, agreed, conflicting}
@@ -24,11 +26,20 @@ NothingLeftOpen =
     (r : ℕ) → Primitive r → (p : List ℕ) (m a b : Memory) (v v′ : Value Reception) (k k′ : Counts) →
     ReceiveOutcome r p m a v k → ReceiveOutcome r p m b v′ k′ → (v ≡ v′) × (k ≡ k′) × (a ≡ b)
 
--- "No packets gives Left cells."
+-- Request P5: "Without packets Left is the largest stuck set of sent cells." Of the set of sent cells only the cells of the cube are asked, so
+-- what `sends` says of higher numbers does not matter. Some cells are always left, 27 or more.
 unfoldable pub NoPackets : Type 0
 NoPackets =
     (r : ℕ) (p : List ℕ) (m m′ : Memory) (v : Value Reception) (k : Counts) (h : Header) (s : Section) →
     receiveChecked p m ≡ passes (h, s) → s .count ≡ 0 → ReceiveOutcome r p m m′ v k →
+    (K : ℕ → Bool) → Largest (cells (h .shape)) (IsLine (h .shape)) (sends h) K →
+    (v ≡ gives (left (number K (cells (h .shape))))) × (27 ≤ number K (cells (h .shape)))
+
+-- "No packets gives Left cells.": where every cell is sent, as with count 5
+unfoldable pub NoPacketsPlain : Type 0
+NoPacketsPlain =
+    (r : ℕ) (p : List ℕ) (m m′ : Memory) (v : Value Reception) (k : Counts) (h : Header) (s : Section) →
+    receiveChecked p m ≡ passes (h, s) → s .count ≡ 0 → h .used ≡ dataCells (h .shape) → ReceiveOutcome r p m m′ v k →
     v ≡ gives (left (cells (h .shape)))
 
 -- Request P3: what `agreed` decides. The cell came, and any two of its copies have the same bytes, in whatever order they came.

@@ -1,30 +1,30 @@
-// Placing packets: every cell starts missing, its first packet makes it known, and a copy with other bytes makes it missing for good.
+// Placing packets: every cell that is sent starts missing, its first packet makes it known, and a copy with other bytes makes it missing for good.
 use crate::Counts;
 use pack::Header;
 use pack::PacketRead;
 use pack::Section;
+use shape::Shape;
 ghost use mathlib.Core.Path.{_≡_};
 ghost use mathlib.Core.Bool.{true, false};
-ghost use Prim.Native.Nat.{ℕ, _*_, _<_};
+ghost use Prim.Native.Nat.{ℕ, _*_, _≤_, _<_};
 ghost use lib.ListN.{length};
 ghost use Rattle.span.specs.Span.{Copied, BothInside};
-ghost use Rattle.shape.specs.Shapes.{Valid, cells};
+ghost use Rattle.shape.specs.Shapes.{Valid, cells, dataCells};
 ghost use Rattle.shape.specs.Inner.Marks.{isMarked, Remarked};
 ghost use Rattle.stopping.specs.Stopping.{number};
-ghost use Rattle.pack.specs.Packets.{source, Named};
+ghost use Rattle.pack.specs.Packets.{Source, source, Named};
 ghost use Rattle.receiver.specs.Placing.{repeatsOf, Placed};
 ghost use Rattle.receiver.specs.Gathering.{countsOf};
 ghost use Rattle.receiver.specs.Inner.Placing.{Placeable, Marked, Tried, Run, Stops};
 
 // Places all packets, and counts them.
 pub(crate) fn place(air: &[u8], cube: &mut [u8], flags: &mut [u8], h: Header, s: Section) -> Counts
-    requires { ⌜ Valid (h .shape) × ((i : ℕ) → i < s .count → Named (now air) h s i)
+    requires { ⌜ Valid (h .shape) × (h .used ≤ dataCells (h .shape)) × ((i : ℕ) → i < s .count → Named (now air) h s i)
         × (length (now cube) ≡ h .shape .w * cells (h .shape)) × (length (now flags) ≡ cells (h .shape)) ⌝ }
-    ensures { λ r. ⌜ Placed (h .shape) (source (now (air .entry)) h s) (s .count) (now (cube .exit)) (now (flags .exit))
+    ensures { λ r. ⌜ Placed h (source (now (air .entry)) h s) (s .count) (now (cube .exit)) (now (flags .exit))
         × (r ≡ countsOf (h .shape) (source (now (air .entry)) h s)) ⌝ }
 {
-    let cells = flags.len();
-    span::set(flags, 0, cells, 1);
+    begin(cube, flags, h);
     let repeats = place_packets(air, cube, flags, h, s);
     if repeats == 0 {
         return Counts {
@@ -40,11 +40,31 @@ pub(crate) fn place(air: &[u8], cube: &mut [u8], flags: &mut [u8], h: Header, s:
     }
 }
 
+// What stands before any packet: cells that are sent are missing; those that are not are known and 00h. The flags are a cube of single bytes, so
+// that one call finds the unsent cells in both.
+fn begin(cube: &mut [u8], flags: &mut [u8], h: Header)
+    requires { ⌜ Valid (h .shape) × (h .used ≤ dataCells (h .shape))
+        × (length (now cube) ≡ h .shape .w * cells (h .shape)) × (length (now flags) ≡ cells (h .shape)) ⌝ }
+    ensures { λ _. ⌜ ((s : Source) → Marked h s 0 (now (cube .exit)) (now (flags .exit))) ⌝ }
+{
+    let sh = h.shape;
+    let cells = flags.len();
+    span::set(flags, 0, cells, 1);
+    let single = Shape {
+        l1: sh.l1,
+        l2: sh.l2,
+        l3: sh.l3,
+        w: 1,
+    };
+    data::set_data(flags, single, h.used, 2);
+    data::set_data(cube, sh, h.used * sh.w, 0);
+}
+
 // Places one packet after another; the answer is the repeats. While packets are placed a flag is 1 where none came, 0 where all that came are
-// equal, and 3 where two differ. First packets and repeats mostly come in long runs, so each have a loop of their own.
+// equal, 3 where two differ, and 2 where the cell is unsent. First packets and repeats mostly come in long runs, so each have a loop of their own.
 fn place_packets(air: &[u8], cube: &mut [u8], flags: &mut [u8], h: Header, s: Section) -> usize
     requires { ⌜ Placeable (now air) h s 0 (now cube) (now flags) ⌝ }
-    ensures { λ r. ⌜ Marked (h .shape) (source (now (air .entry)) h s) (s .count) (now (cube .exit)) (now (flags .exit))
+    ensures { λ r. ⌜ Marked h (source (now (air .entry)) h s) (s .count) (now (cube .exit)) (now (flags .exit))
         × (r ≡ repeatsOf (source (now (air .entry)) h s) (s .count)) ⌝ }
 {
     let n = s.count;
@@ -69,7 +89,7 @@ fn place_new(
     from: usize,
 ) -> usize
     requires { ⌜ Placeable (now air) h s from (now cube) (now flags) ⌝ }
-    ensures { λ r. ⌜ Run (h .shape) (source (now (air .entry)) h s) (s .count) from r (now (cube .exit)) (now (flags .exit)) 0
+    ensures { λ r. ⌜ Run h (source (now (air .entry)) h s) (s .count) from r (now (cube .exit)) (now (flags .exit)) 0
         × Stops (source (now (air .entry)) h s) (s .count) r true ⌝ }
 {
     let sh = h.shape;
@@ -91,7 +111,7 @@ fn place_firsts(
 ) -> usize
     requires { ⌜ Placeable (now air) h s from (now cube) (now flags) ⌝ }
     requires { ⌜ (single ≡ true → h .shape .w ≡ 1) ⌝ }
-    ensures { λ r. ⌜ Run (h .shape) (source (now (air .entry)) h s) (s .count) from r (now (cube .exit)) (now (flags .exit)) 0
+    ensures { λ r. ⌜ Run h (source (now (air .entry)) h s) (s .count) from r (now (cube .exit)) (now (flags .exit)) 0
         × Stops (source (now (air .entry)) h s) (s .count) r true ⌝ }
 {
     let n = s.count;
@@ -115,9 +135,9 @@ fn place_first(
     i: usize,
     single: bool,
 ) -> bool
-    requires { ⌜ Valid (h .shape) × Named (now air) h s i × Marked (h .shape) (source (now air) h s) i (now cube) (now flags) ⌝ }
+    requires { ⌜ Valid (h .shape) × Named (now air) h s i × Marked h (source (now air) h s) i (now cube) (now flags) ⌝ }
     requires { ⌜ (single ≡ true → h .shape .w ≡ 1) ⌝ }
-    ensures { λ r. ⌜ Tried (h .shape) (source (now (air .entry)) h s) i (now (cube .entry)) (now (flags .entry)) (now (cube .exit)) (now (flags .exit)) 0 true r ⌝ }
+    ensures { λ r. ⌜ Tried h (source (now (air .entry)) h s) i (now (cube .entry)) (now (flags .entry)) (now (cube .exit)) (now (flags .exit)) 0 true r ⌝ }
 {
     let sh = h.shape;
     let read = pack::packet(air, h, s, i);
@@ -154,7 +174,7 @@ fn place_repeats(
     from: usize,
 ) -> usize
     requires { ⌜ Placeable (now air) h s from (now cube) (now flags) ⌝ }
-    ensures { λ r. ⌜ Run (h .shape) (source (now (air .entry)) h s) (s .count) from r (now (cube .exit)) (now (flags .exit)) 1
+    ensures { λ r. ⌜ Run h (source (now (air .entry)) h s) (s .count) from r (now (cube .exit)) (now (flags .exit)) 1
         × Stops (source (now (air .entry)) h s) (s .count) r false ⌝ }
 {
     let n = s.count;
@@ -178,8 +198,8 @@ fn place_repeat(
     s: Section,
     i: usize,
 ) -> bool
-    requires { ⌜ Valid (h .shape) × Named (now air) h s i × Marked (h .shape) (source (now air) h s) i (now cube) (now flags) ⌝ }
-    ensures { λ r. ⌜ Tried (h .shape) (source (now (air .entry)) h s) i (now (cube .entry)) (now (flags .entry)) (now (cube .exit)) (now (flags .exit)) 1 false r ⌝ }
+    requires { ⌜ Valid (h .shape) × Named (now air) h s i × Marked h (source (now air) h s) i (now cube) (now flags) ⌝ }
+    ensures { λ r. ⌜ Tried h (source (now (air .entry)) h s) i (now (cube .entry)) (now (flags .entry)) (now (cube .exit)) (now (flags .exit)) 1 false r ⌝ }
 {
     let sh = h.shape;
     let w = sh.w;

@@ -6,6 +6,7 @@ use Prim.Native.Nat.{ℕ, _<_}
 use lib.ListN.{getD}
 use Rattle.pack.specs.Packets.{Named}
 use Rattle.pack.proofs.Naming.{air-named}
+use Rattle.pack.proofs.Sound.{air-sound}
 use Rattle.receiver.proofs.Outcomes.{gathered-index}
 use Rattle.receiver.proofs.gathering.gather.Statement.{statement}
 use Rattle.receiver.proofs.gathering.gather.Tie as tie
@@ -38,7 +39,7 @@ place-requires : tie.Need-place-requires
 place-requires c κs =
     let e = c .before .before in
     let fits = start e .pre in
-    (fits .valid, named e, fits .cube-size, fits .flags-size)
+    (fits .valid, air-sound _ _ _ (fits .air) .header .most, named e, fits .cube-size, fits .flags-size)
 
 finish-requires : tie.Need-finish-requires
 finish-requires c κs = start (c .before .before .before .before .before .before .before .before .before) .pre .valid

@@ -1,10 +1,14 @@
 -- `place_first` places the first packet of a cell.
+use mathlib.Core.Path.{_≡_}
+use mathlib.Core.Bool.{false}
 use native.Mathlib.Omega.{arith}
 use Prim.Native.Nat.{ℕ, _*_, _<_}
 use lib.ListN.{length}
 use Rattle.span.specs.Span.{BothInside}
 use Rattle.shape.specs.Shapes.{cells}
-use Rattle.pack.proofs.Naming.{Told, packet-told, packet-absent, place-lt}
+use Rattle.pack.specs.Packs.{unsent}
+use Rattle.pack.specs.Packets.{source}
+use Rattle.pack.proofs.Naming.{Told, packet-told, packet-absent, place-lt, place-sent}
 use Rattle.receiver.proofs.Arrivals.{cell-inside, is-repeat, arrived-first, tried-placed, tried-other}
 use borrow.Author.Needs.{needs}
 use Rattle.receiver.proofs.placing.place_first.Statement.{statement}
@@ -25,6 +29,11 @@ told c = packet-told _ _ _ _ _ _ _ (c .before .before .packet .ensures) (c .read
 
 below : (c : tie.After-read) → place c < cells (start c .args .h .shape)
 below c = let cell = place-lt _ _ _ _ (start c .pre .0 .1 .range) in omega (arith, told c .cell)
+
+-- it is sent
+sent : (c : tie.After-read)
+    → unsent (start c .args .h) (source (start c .args .air .now) (start c .args .h) (start c .args .s) .place (start c .args .i)) ≡ false
+sent c = place-sent _ _ _ _ (start c .pre .0 .1 .range)
 
 -- the flag and the bytes of the cell lie inside
 flag-inside : (c : tie.After-read) → place c < length (start c .args .flags .now)
@@ -54,7 +63,7 @@ slice-read-if1 c = flag-inside (c .before .before)
 returns-2 : tie.Need-returns-2
 returns-2 c =
     let k = c .before .before .before in
-    tried-other _ _ _ _ _ _ _ (is-repeat _ _ _ _ _ (start k .pre .0 .2) _ (told k .cell) (below k) (c .if1 .taken))
+    tried-other _ _ _ _ _ _ _ (is-repeat _ _ _ _ _ (start k .pre .0 .2) _ (told k .cell) (below k) (sent k) (c .if1 .taken))
 
 put-requires : tie.Need-put-requires
 put-requires c κs = let k = c .before .before .before .before in (inside k, start k .pre .1)
@@ -73,7 +82,7 @@ returns-3 c =
     let t = c .before .before .before .before in
     let k = t .before .before .before in
     tried-placed _ _ _ _ _ _ _ _ _
-    (arrived-first _ _ _ _ _ (start k .pre .0 .2) _ (told k .cell) (below k) _ _ (λ w l. told k .byte w) _ (t .if1 .left) (c .before .before .put .ensures))
+    (arrived-first _ _ _ _ _ (start k .pre .0 .2) _ (told k .cell) (below k) (sent k) _ _ (λ w l. told k .byte w) _ (t .if1 .left) (c .before .before .put .ensures))
 
 pub place-first-spec : {M : Type 1} → statement M
 place-first-spec =

@@ -13,7 +13,7 @@ use Rattle.receiver.proofs.placing.place_packets.Tie as tie
 
 abbrev Inv-loop : tie.InvT-loop
 Inv-loop air cube₀ flags₀ h s n repeats₀ i₀ cube flags repeats i =
-    (i ≤ s .count) × Marked (h .shape) (source air h s) i cube flags × (repeats ≡ repeatsOf (source air h s) i) × Stops (source air h s) (s .count) i true
+    (i ≤ s .count) × Marked h (source air h s) i cube flags × (repeats ≡ repeatsOf (source air h s) i) × Stops (source air h s) (s .count) i true
 
 abbrev μ-loop : tie.MeasureT-loop
 μ-loop air cube₀ flags₀ h s n repeats₀ i₀ cube flags repeats i = s .count - i

@@ -1,10 +1,14 @@
 -- `place_repeat` compares a repeat with what stands in its cell, and marks the cell where they differ.
+use mathlib.Core.Path.{_≡_}
+use mathlib.Core.Bool.{false}
 use native.Mathlib.Omega.{arith}
 use Prim.Native.Nat.{ℕ, _*_, _<_}
 use lib.ListN.{length}
 use Rattle.span.specs.Span.{BothInside}
 use Rattle.shape.specs.Shapes.{cells}
-use Rattle.pack.proofs.Naming.{Told, packet-told, packet-absent, place-lt}
+use Rattle.pack.specs.Packs.{unsent}
+use Rattle.pack.specs.Packets.{source}
+use Rattle.pack.proofs.Naming.{Told, packet-told, packet-absent, place-lt, place-sent}
 use Rattle.receiver.proofs.Arrivals.{cell-inside, is-first, arrived-same, arrived-other, tried-placed, tried-other}
 use borrow.Author.Needs.{needs}
 use Rattle.receiver.proofs.placing.place_repeat.Statement.{statement}
@@ -25,6 +29,11 @@ told c = packet-told _ _ _ _ _ _ _ (c .before .before .packet .ensures) (c .read
 
 below : (c : tie.After-read) → place c < cells (start c .args .h .shape)
 below c = let cell = place-lt _ _ _ _ (start c .pre .1 .range) in omega (arith, told c .cell)
+
+-- it is sent
+sent : (c : tie.After-read)
+    → unsent (start c .args .h) (source (start c .args .air .now) (start c .args .h) (start c .args .s) .place (start c .args .i)) ≡ false
+sent c = place-sent _ _ _ _ (start c .pre .1 .range)
 
 -- the flag and the bytes of the cell lie inside
 flag-inside : (c : tie.After-read) → place c < length (start c .args .flags .now)
@@ -54,7 +63,7 @@ slice-read-if1 c = flag-inside (c .before .before)
 returns-2 : tie.Need-returns-2
 returns-2 c =
     let k = c .before .before .before in
-    tried-other _ _ _ _ _ _ _ (is-first _ _ _ _ _ (start k .pre .2) _ (told k .cell) (below k) (c .if1 .taken))
+    tried-other _ _ _ _ _ _ _ (is-first _ _ _ _ _ (start k .pre .2) _ (told k .cell) (below k) (sent k) (c .if1 .taken))
 
 mul-same : tie.Need-mul-same
 mul-same c = omega (arith, inside (c .before .before .before .before) .1)
@@ -71,7 +80,7 @@ returns-3 c =
     let e = a .before .before in
     let k = e .before .before .before in
     tried-placed _ _ _ _ _ _ _ _ _
-    (arrived-same _ _ _ _ _ (start k .pre .2) _ (told k .cell) (below k) _ _ (λ w l. told k .byte w) (e .if1 .left) _ (a .same .ensures) (inside k) (c .if2 .taken))
+    (arrived-same _ _ _ _ _ (start k .pre .2) _ (told k .cell) (below k) (sent k) _ _ (λ w l. told k .byte w) (e .if1 .left) _ (a .same .ensures) (inside k) (c .if2 .taken))
 
 slice-write-flags : tie.Need-slice-write-flags
 slice-write-flags c = flag-inside (c .before .before .before .before .before .before)
@@ -88,7 +97,7 @@ returns-4 c =
     let e = a .before .before in
     let k = e .before .before .before in
     tried-placed _ _ _ _ _ _ _ _ _
-    (arrived-other _ _ _ _ _ (start k .pre .2) _ (told k .cell) (below k) _ _ (λ w l. told k .byte w) (e .if1 .left) _ (a .same .ensures) (inside k) (c .if2 .left))
+    (arrived-other _ _ _ _ _ (start k .pre .2) _ (told k .cell) (below k) (sent k) _ _ (λ w l. told k .byte w) (e .if1 .left) _ (a .same .ensures) (inside k) (c .if2 .left))
 
 pub place-repeat-spec : {M : Type 1} → statement M
 place-repeat-spec =

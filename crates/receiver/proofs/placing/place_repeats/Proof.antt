@@ -12,7 +12,7 @@ use Rattle.receiver.proofs.placing.place_repeats.Statement.{statement}
 use Rattle.receiver.proofs.placing.place_repeats.Tie as tie
 
 abbrev Inv-loop : tie.InvT-loop
-Inv-loop air cube₀ flags₀ h s from n i₀ cube flags i = Run (h .shape) (source air h s) (s .count) from i cube flags 1
+Inv-loop air cube₀ flags₀ h s from n i₀ cube flags i = Run h (source air h s) (s .count) from i cube flags 1
 
 abbrev μ-loop : tie.MeasureT-loop
 μ-loop air cube₀ flags₀ h s from n i₀ cube flags i = s .count - i
@@ -34,7 +34,7 @@ place-repeat-requires c κs =
 
 -- what stands once a packet was left
 left : (c : tie.Then1 Inv-loop μ-loop)
-    → Run (start c .args .h .shape) (source (start c .args .air .now) (start c .args .h) (start c .args .s)) (start c .args .s .count) (start c .args .from) (turn c .before .loop .i) (c .before .before .before .before .before .place-repeat .last .1 .0) (c .before .before .before .before .before .place-repeat .last .1 .1 .0) 1
+    → Run (start c .args .h) (source (start c .args .air .now) (start c .args .h) (start c .args .s)) (start c .args .s .count) (start c .args .from) (turn c .before .loop .i) (c .before .before .before .before .before .place-repeat .last .1 .0) (c .before .before .before .before .before .place-repeat .last .1 .1 .0) 1
     × (among (source (start c .args .air .now) (start c .args .h) (start c .args .s)) (turn c .before .loop .i) (source (start c .args .air .now) (start c .args .h) (start c .args .s) .place (turn c .before .loop .i)) ≡ false)
 left c =
     run-left _ _ _ _ _ _ _ _ _ _ _ _ (turn c .before .loop .inv) (c .before .before .before .before .before .place-repeat .ensures) (not-true _ (c .if1 .taken))
