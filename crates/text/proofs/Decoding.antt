@@ -1,6 +1,7 @@
 -- The second turn over a text: its first turn told it whole, bytes are decoded one by one, a line becomes its packet, and the packets of all
 -- lines the pack.
 use mathlib.Core.Path.{_≡_, refl, sym, ap, _∙_}
+use mathlib.Core.Logic.{inl}
 use mathlib.Core.List.{List, [], _∷_, _++_, append-nil}
 use Prim.Native.Nat.{ℕ, suc, _+_, _*_, _≤_, _<_}
 use native.Mathlib.Numerals.{add-one}
@@ -17,8 +18,8 @@ use Rattle.cursor.specs.declared.Cursor.{Cursor}
 use Rattle.printing.specs.Text.{ascii}
 use Rattle.pack.specs.Packs.{Packet, packetBytes, packets, airPack, airHead, airSize}
 use Rattle.pack.specs.Packets.{packetNo}
-use Rattle.pack.proofs.Written.{Sized, packets-length, packets-append, air-laid}
-use Rattle.pack.proofs.AirPacks.{air-length}
+use Rattle.pack.specs.Reading.{headerWith, headerFor}
+use Rattle.pack.proofs.Written.{Sized, packets-length, packets-append, air-laid, air-length}
 use Rattle.pack_writer.specs.declared.AirStart.{AirStart}
 use Rattle.pack_writer.specs.declared.AirStart.the-variants.{Started, Refused as NoStart}
 use Rattle.pack_writer.proofs.Laying.{laid-laid}
@@ -216,11 +217,11 @@ read-lines {t} {s} ks h all l1 l2 l3 =
 -- `start_air` where the checks have passed
 module _ {sh : Shape} {n : ℕ} {before after : List ℕ} (r : AirStart) (start : StartOutcome sh n before after (startValue r))
     (passed : startChecked sh n (length before) ≡ passes tt) where
-  pub start-told : (c : Cursor) → r ≡ Started c → Laid before (record { at = 0 }) (airHead sh n) after c
+  pub start-told : (c : Cursor) → r ≡ Started c → Laid before (record { at = 0 }) (airHead (headerFor sh) n) after c
   unfolding startValue
   start-told c e = told _ start (ap startValue e)
     where
-      told : (v : Value Cursor) → StartOutcome sh n before after v → v ≡ gives c → Laid before (record { at = 0 }) (airHead sh n) after c
+      told : (v : Value Cursor) → StartOutcome sh n before after v → v ≡ gives c → Laid before (record { at = 0 }) (airHead (headerFor sh) n) after c
       told _ (start-refused number fail kept) q = absurd (passes-fails tt number (sym passed ∙ fail))
       told _ (started d _ l) q = let same : d ≡ c = cc in rw same at l
 
@@ -234,12 +235,15 @@ module _ {sh : Shape} {n : ℕ} {before after : List ℕ} (r : AirStart) (start 
 
 -- what stands before the packets, and the packets, over the whole slice
 pub pack-laid : {before mid after : List ℕ} {c : Cursor} (sh : Shape) (n : ℕ) (ks : List Packet) → n ≡ length ks → Sized (sh .w) ks
-    → length before ≡ airSize sh n → Laid before (record { at = 0 }) (airHead sh n) mid c → Put mid (c .at) (packets ks) after → after ≡ airPack sh ks
+    → length before ≡ airSize (headerFor sh) n → Laid before (record { at = 0 }) (airHead (headerFor sh) n) mid c → Put mid (c .at) (packets ks) after
+    → after ≡ airPack (headerFor sh) ks
+unfolding headerFor headerWith
 pack-laid {before} {mid} {after} {c} sh n ks count all size head rest =
+    let h = headerFor sh in
     let last : Laid mid c (packets ks) after (record { at = c .at + length (packets ks) }) = record { put = rest; behind = refl } in
-    let counted : Laid before (record { at = 0 }) (airHead sh (length ks)) mid c = rw count at head in
-    let parts = air-laid sh ks in
-    put-all (rw (← parts) at (laid-laid counted last .put)) (air-length sh ks all ∙ (sym (ap (airSize sh) count) ∙ sym size))
+    let counted : Laid before (record { at = 0 }) (airHead h (length ks)) mid c = rw count at head in
+    let parts = air-laid h ks in
+    put-all (rw (← parts) at (laid-laid counted last .put)) (air-length h ks (inl refl) all ∙ (sym (ap (airSize h) count) ∙ sym size))
 
 -- ---- what the reader answers
 
@@ -268,7 +272,7 @@ module _ {t : List ℕ} {s : Contents} (r : Read t s) (before : List ℕ) where
       (record { bound = bound; before = h .inside .before; here = h .inside .here bound }) refl
 
   pub read-whole : (after : List ℕ) → startChecked (s .shape) (s .packets) (length before) ≡ passes tt → s .inside ≡ s .packets
-      → ((ks : List Packet) → Scanning t s ks → after ≡ airPack (s .shape) ks) → ReadTextOutcome t before after (gives tt)
+      → ((ks : List Packet) → Scanning t s ks → after ≡ airPack (headerFor (s .shape)) ks) → ReadTextOutcome t before after (gives tt)
   read-whole after e all pack =
       let h = r .scanning in
       read-done (s .shape) (r .list) (h .form) (h .text) (counted (passes tt) e)

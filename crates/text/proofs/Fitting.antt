@@ -7,10 +7,10 @@ use borrow.Author.Tests.{eq-eqb, ne-eqb}
 use Rattle.answer.specs.Values.{passes, fails, check, andThen}
 use Rattle.pack.specs.declared.Header.{Header}
 use Rattle.pack.specs.declared.Section.{Section}
-use Rattle.pack.specs.Reading.{airOf}
+use Rattle.pack.specs.Reading.{plainAirOf}
 use Rattle.text.specs.Text.{textIn, writeTextChecked}
 
-module _ (p : List ℕ) (h : Header) (s : Section) (read : airOf p ≡ passes (h, s)) (len : ℕ) where
+module _ (p : List ℕ) (h : Header) (s : Section) (read : plainAirOf p ≡ passes (h, s)) (len : ℕ) where
   pub text-short : (len ≡ length (textIn p (h, s)) → ⊥) → writeTextChecked p len ≡ fails 4
   unfolding writeTextChecked andThen check
   text-short differ = rw (read, ne-eqb len (length (textIn p (h, s))) differ)

@@ -1,22 +1,25 @@
 -- The contracts on texts leave nothing open, and a pack and its text make each other. A pack that is read is the air pack of its shape and
 -- packets, and its text is theirs; a text has one reading. So what the one call makes of the other's result is known, and nothing else can be met.
 use mathlib.Core.Path.{_≡_, refl, sym, ap, ap₂, subst, _∙_}
+use mathlib.Core.Logic.{inl}
 use mathlib.Core.List.{List}
 use Prim.Native.Nat.{ℕ, _^_, _≤_, _<_}
 use native.Mathlib.Omega.{arith}
 use lib.ListN.{length, getD}
-use Rattle.answer.specs.Values.{Value, gives, refused, refused-at, Checked, passes, fails, checked}
+use borrow.Author.Tests.{le-leb}
+use Rattle.answer.specs.Values.{Value, gives, refused, refused-at, Checked, passes, fails, check, checked}
 use Rattle.answer.proofs.Values.{passes-injective, fails-injective, passes-fails, check-passed, then-passed}
 use Rattle.shape.specs.declared.Shape.{Shape}
 use Rattle.shape.specs.Shapes.{Valid, capacity}
+use Rattle.cursor.specs.Steps.{word, wordBytes, count}
 use Rattle.pack.specs.declared.Header.{Header}
 use Rattle.pack.specs.declared.Section.{Section}
-use Rattle.pack.specs.Packs.{Packet, airPack, airSize}
-use Rattle.pack.specs.Reading.{headerFor, airOf}
+use Rattle.pack.specs.Packs.{Packet, sectionOne, head, airPack, airSize}
+use Rattle.pack.specs.Reading.{headerWith, headerFor, usedBy, airOf, plainAirOf}
 use Rattle.pack.specs.Packets.{packetIn, packetsIn, packetNo, FirstOutside}
-use Rattle.pack.proofs.Sound.{air-sound}
-use Rattle.pack.proofs.Written.{Sized, air-read}
-use Rattle.pack.proofs.AirPacks.{air-length, packetsIn-length, packetsIn-at, Octets, packetIn-size, packetsIn-sized, packetIn-bytes, named-in-range, in-range-named, air-back, packets-back, airPack-bytes}
+use Rattle.pack.proofs.Sound.{plain-sound, air-sound, plain-air}
+use Rattle.pack.proofs.Written.{Sized, air-read, air-length}
+use Rattle.pack.proofs.AirPacks.{packetsIn-length, packetsIn-at, Octets, packetIn-size, packetsIn-sized, packetIn-bytes, named-in-range, in-range-named, air-back, packets-back, plain-header, airPack-bytes}
 use Rattle.pack_writer.specs.Writing.{airSizeChecked, startChecked}
 use Rattle.pack_writer.proofs.Starting.{start-passed, start-passes}
 use Rattle.text.specs.Form.{textOf, Formed, InForm, Broken}
@@ -97,7 +100,7 @@ AllInside sh ks = (i : ℕ) → i < length ks → Inside sh (packetNo ks i)
 -- the outcome of a text that is made of this shape and these packets
 abbrev ReadJudged : (before after : List ℕ) → Value Unit → Shape → List Packet → Type 0
 ReadJudged before after v sh ks =
-    Judged {A = Unit} (startChecked sh (length ks) (length before)) (λ x. Outside sh ks) (λ x. AllInside sh ks) (λ x. airPack sh ks) before after v
+    Judged {A = Unit} (startChecked sh (length ks) (length before)) (λ x. Outside sh ks) (λ x. AllInside sh ks) (λ x. airPack (headerFor sh) ks) before after v
 
 one-outside : (sh : Shape) (ks : List Packet) (i j : ℕ) → Outside sh ks i → Outside sh ks j → i ≡ j
 one-outside sh ks i j f g =
@@ -130,7 +133,7 @@ module _ (t before : List ℕ) where
 
     form-determined : (a b : List ℕ) (v v′ : Value Unit) → ReadTextOutcome t before a v → ReadTextOutcome t before b v′ → (v ≡ v′) × (a ≡ b)
     form-determined a b v v′ o o′ =
-        judged-determined {A = Unit} (startChecked sh (length ks) (length before)) (λ x. Outside sh ks) (λ x. AllInside sh ks) (λ x. airPack sh ks)
+        judged-determined {A = Unit} (startChecked sh (length ks) (length before)) (λ x. Outside sh ks) (λ x. AllInside sh ks) (λ x. airPack (headerFor sh) ks)
         (λ x. one-outside sh ks) (λ x i out all. out .here (all i (out .bound))) before a b v v′ (read-judged a v o) (read-judged b v′ o′)
 
   -- the contract determines the answer and every lent byte
@@ -156,14 +159,20 @@ pack-size-determined t v v′ (size-checked sh ks f e) (size-checked x ms g e′
 -- ---- outcomes that are met
 
 -- the text of a pack that is read, where every packet names a cell and the slice has the text's length
-pub text-written : (p before : List ℕ) (h : Header) (s : Section) → airOf p ≡ passes (h, s) → FirstOutside p h s (s .count)
+pub text-written : (p before : List ℕ) (h : Header) (s : Section) → plainAirOf p ≡ passes (h, s) → FirstOutside p h s (s .count)
     → length before ≡ length (textIn p (h, s)) → WriteTextOutcome p before (textIn p (h, s)) (gives tt)
 text-written p before h s read all size = write-done h s (text-fits p h s read (length before) size) all refl
+
+-- an air pack of count 5 is one that the text twin reads
+plain-written : (sh : Shape) (ks : List Packet) (s : Section) → airOf (airPack (headerFor sh) ks) ≡ passes (headerFor sh, s)
+    → plainAirOf (airPack (headerFor sh) ks) ≡ passes (headerFor sh, s)
+unfolding plainAirOf count check word wordBytes airPack head sectionOne headerFor headerWith
+plain-written sh ks s read = rw (read, le-leb 4 (length (airPack (headerFor sh) ks)) (omega arith))
 
 -- The pack of a text in the form, and the text of that pack: where the shape is valid with room for a file's length, all packets lie in the
 -- cube, and the slice has the right length.
 module _ (sh : Shape) (ks : List Packet) (f : InForm sh ks) (v : Valid sh) (room : 4 ≤ capacity sh) (all : AllInside sh ks) (before : List ℕ) where
-  pub pack-made : length before ≡ airSize sh (length ks) → ReadTextOutcome (textOf sh ks) before (airPack sh ks) (gives tt)
+  pub pack-made : length before ≡ airSize (headerFor sh) (length ks) → ReadTextOutcome (textOf sh ks) before (airPack (headerFor sh) ks) (gives tt)
   pack-made size = read-done sh ks f refl (start-passes sh (length ks) (length before) v room size) all refl
 
   octets : (i : ℕ) → i < length ks → Octets (packetNo ks i)
@@ -176,11 +185,11 @@ module _ (sh : Shape) (ks : List Packet) (f : InForm sh ks) (v : Valid sh) (room
         cell-bytes = f .packets i l .bytes;
       }
 
-  all-named : (s : Section) → airOf (airPack sh ks) ≡ passes (headerFor sh, s) → packetsIn (airPack sh ks) (headerFor sh) s ≡ ks
-      → FirstOutside (airPack sh ks) (headerFor sh) s (s .count)
-  unfolding headerFor
+  all-named : (s : Section) → airOf (airPack (headerFor sh) ks) ≡ passes (headerFor sh, s) → packetsIn (airPack (headerFor sh) ks) (headerFor sh) s ≡ ks
+      → FirstOutside (airPack (headerFor sh) ks) (headerFor sh) s (s .count)
+  unfolding headerFor headerWith usedBy
   all-named s read back =
-      let p = airPack sh ks in
+      let p = airPack (headerFor sh) ks in
       let count : s .count ≡ length ks = sym (packetsIn-length p (headerFor sh) s) ∙ ap length back in
       let inside : (i : ℕ) → i < s .count → Inside sh (packetIn p (headerFor sh) s i)
       = λ (i : ℕ) (l : i < s .count).
@@ -189,28 +198,29 @@ module _ (sh : Shape) (ks : List Packet) (f : InForm sh ks) (v : Valid sh) (room
         bound = omega arith;
         before = λ (i : ℕ) (l : i < s .count).
             let k = inside i l in
-            in-range-named p (headerFor sh) s read (airPack-bytes sh ks v octets) i l (k .first) (k .second) (k .third);
+            in-range-named p (headerFor sh) s read (airPack-bytes (headerFor sh) ks (plain-sound sh v room) octets) refl i l (k .first) (k .second) (k .third);
         here = λ l n. omega arith;
       }
 
-  pub text-made : length before ≡ length (textOf sh ks) → WriteTextOutcome (airPack sh ks) before (textOf sh ks) (gives tt)
-  unfolding textIn headerFor
+  pub text-made : length before ≡ length (textOf sh ks) → WriteTextOutcome (airPack (headerFor sh) ks) before (textOf sh ks) (gives tt)
+  unfolding textIn headerFor headerWith
   text-made size =
-      let p = airPack sh ks in
+      let p = airPack (headerFor sh) ks in
+      let sound = plain-sound sh v room in
       let sized : Sized (sh .w) ks = λ (i : ℕ) (l : i < length ks). f .packets i l .size in
       let few : length ks < 2 ^ 32 = omega (arith, f .most) in
-      let (s, read, _) = air-read sh ks v room sized few in
-      let back = packets-back sh ks v room sized few s read in
+      let (s, read, _) = air-read (headerFor sh) ks sound sized few in
+      let back = packets-back (headerFor sh) ks sound sized few s read in
       let text : textOf sh (packetsIn p (headerFor sh) s) ≡ textOf sh ks = ap (textOf sh) back in
       subst (λ (z : List ℕ). WriteTextOutcome p before z (gives tt)) text
-      (text-written p before (headerFor sh) s read (all-named s read back) (size ∙ ap length (sym text)))
+      (text-written p before (headerFor sh) s (plain-written sh ks s read) (all-named s read back) (size ∙ ap length (sym text)))
 
 -- ---- back from a text to its pack, and from a pack to its text
 
-text-told : (p : List ℕ) (n : ℕ) (h : Header) (s : Section) → writeTextChecked p n ≡ passes (h, s) → airOf p ≡ passes (h, s)
+text-told : (p : List ℕ) (n : ℕ) (h : Header) (s : Section) → writeTextChecked p n ≡ passes (h, s) → plainAirOf p ≡ passes (h, s)
 unfolding writeTextChecked
 text-told p n h s e =
-    let (air, read, rest) = then-passed (airOf p) _ (h, s) e in
+    let (air, read, rest) = then-passed (plainAirOf p) _ (h, s) e in
     read ∙ check-passed _ 4 (passes air) (h, s) rest .1
 
 module _ (p : List ℕ) (h : Header) (s : Section) (read : airOf p ≡ passes (h, s)) where
@@ -249,15 +259,16 @@ module _ (p : List ℕ) (h : Header) (s : Section) (read : airOf p ≡ passes (h
       rw (packetsIn-at p h s i k) (record { first = a; second = b; third = c })
 
 pub reads-back : ReadsBack
-unfolding ReadsBack textIn
+unfolding ReadsBack textIn headerFor headerWith
 reads-back p before t q q′ v small (write-done h s checks all text) o size =
-    let read = text-told p (length before) h s checks in
+    let plain = text-told p (length before) h s checks in
+    let read = plain-air p h s plain in
     let sound = air-sound p h s read .header in
     let ks = packetsIn p h s in
-    let back = air-back p h s read small in
-    let long = size ∙ ap length back ∙ air-length (h .shape) ks (packetsIn-sized p h s read) in
+    let back : p ≡ airPack (headerFor (h .shape)) ks = air-back p h s read small ∙ ap (λ (g : Header). airPack g ks) (plain-header p h s plain) in
+    let long = size ∙ ap length back ∙ air-length (headerFor (h .shape)) ks (inl refl) (packetsIn-sized p h s read) in
     let met = pack-made (h .shape) ks (read-in-form p h s read small) (sound .valid) (sound .room) (read-inside p h s read all) q long in
-    let (value, pack) = read-text-determined (textOf (h .shape) ks) q q′ (airPack (h .shape) ks) v (gives tt) (rw text at o) met in
+    let (value, pack) = read-text-determined (textOf (h .shape) ks) q q′ (airPack (headerFor (h .shape)) ks) v (gives tt) (rw text at o) met in
     (value, pack ∙ sym back)
 
 pub writes-back : WritesBack
@@ -265,5 +276,5 @@ unfolding WritesBack
 writes-back t q p before t′ v (read-done sh ks f e checks all pack) o size =
     let (valid, room, _) = start-passed sh (length ks) (length q) checks in
     let met = text-made sh ks f valid room all before (size ∙ ap length e) in
-    let (value, text) = write-text-determined (airPack sh ks) before t′ (textOf sh ks) v (gives tt) (rw pack at o) met in
+    let (value, text) = write-text-determined (airPack (headerFor sh) ks) before t′ (textOf sh ks) v (gives tt) (rw pack at o) met in
     (value, text ∙ sym e)

@@ -9,7 +9,7 @@ use Rattle.shape.specs.declared.Shape.{Shape}
 use Rattle.pack.specs.declared.Header.{Header}
 use Rattle.pack.specs.declared.Section.{Section}
 use Rattle.pack.specs.Packs.{Packet, airPack}
-use Rattle.pack.specs.Reading.{airOf}
+use Rattle.pack.specs.Reading.{headerFor, plainAirOf}
 use Rattle.pack.specs.Packets.{packetsIn, packetNo, FirstOutside}
 use Rattle.pack_writer.specs.Writing.{airSizeChecked, startChecked}
 use Rattle.text.specs.Form.{textOf, InForm, Broken}
@@ -20,10 +20,10 @@ use Rattle.text.specs.Form.{textOf, InForm, Broken}
 unfoldable pub textIn : List ℕ → Header × Section → List ℕ
 textIn p air = textOf (air .0 .shape) (packetsIn p (air .0) (air .1))
 
--- the pack's checks, then 4 for the text
+-- The pack's checks, then 4 for the text. Request P5: "the text twin keeps to count 5 and answers 7 otherwise".
 unfoldable pub writeTextChecked : List ℕ → ℕ → Checked (Header × Section)
 writeTextChecked p textLength =
-    andThen (airOf p) (λ air.
+    andThen (plainAirOf p) (λ air.
     check (eqb textLength (length (textIn p air))) 4
     (passes air))
 
@@ -40,7 +40,7 @@ pub data WriteTextOutcome (p before after : List ℕ) : Value Unit → Type 0 wh
 
 -- `text_bytes`: the bytes of a pack's text
 unfoldable pub textSizeChecked : List ℕ → Checked ℕ
-textSizeChecked p = andThen (airOf p) (λ air. passes (length (textIn p air)))
+textSizeChecked p = andThen (plainAirOf p) (λ air. passes (length (textIn p air)))
 
 -- ---- from a text to its pack
 
@@ -56,8 +56,8 @@ pub record Outside (sh : Shape) (ks : List Packet) (i : ℕ) : Type 0 where
   pub before : (j : ℕ) → j < i → Inside sh (packetNo ks j)
   pub here : Inside sh (packetNo ks i) → ⊥
 
--- `read_text`: the slice becomes the air pack of the text. "17, the first line that breaks this form …; the text reader then checks 1, 2, 3, 10, 4
--- and 11." A refusal changes no byte.
+-- `read_text`: the slice becomes the air pack of the text, of count 5. "17, the first line that breaks this form …; the text reader then checks
+-- 1, 2, 3, 10, 4 and 11." A refusal changes no byte.
 pub data ReadTextOutcome (t before after : List ℕ) : Value Unit → Type 0 where
   read-broken : (n : ℕ) → Broken t n → after ≡ before → ReadTextOutcome t before after (refused-at 17 n)
   read-refused :
@@ -70,7 +70,7 @@ pub data ReadTextOutcome (t before after : List ℕ) : Value Unit → Type 0 whe
   read-done :
       (sh : Shape) (ks : List Packet) → InForm sh ks → t ≡ textOf sh ks →
       startChecked sh (length ks) (length before) ≡ passes tt → ((i : ℕ) → i < length ks → Inside sh (packetNo ks i)) →
-      after ≡ airPack sh ks → ReadTextOutcome t before after (gives tt)
+      after ≡ airPack (headerFor sh) ks → ReadTextOutcome t before after (gives tt)
 
 -- `text_pack_bytes`: the bytes of a text's pack
 pub data PackSizeOutcome (t : List ℕ) : Value ℕ → Type 0 where

@@ -12,6 +12,7 @@ use Rattle.text.specs.Form.{textOf, InForm, Broken}
 use Rattle.text.specs.Text.{WriteTextOutcome, ReadTextOutcome}
 
 -- "Text made from a pack that passes 1 to 11 reads back to that pack": lent the pack's exact length, the reader gives the pack.
+-- A pack that has a text has count 5, and so has what the reader makes.
 unfoldable pub ReadsBack : Type 0
 ReadsBack =
     (p before t q q′ : List ℕ) (v : Value Unit) → ((i : ℕ) → getD p i 0 < 256) → WriteTextOutcome p before t (gives tt) →

@@ -18,6 +18,7 @@ ghost use lib.ListN.{length, drop};
 ghost use Rattle.answer.specs.Values.{answerValue, passes};
 ghost use Rattle.span.specs.Span.{Put};
 ghost use Rattle.pack.specs.Packs.{Packet, packetBytes, packets, airPack};
+ghost use Rattle.pack.specs.Reading.{headerFor};
 ghost use Rattle.pack_writer.specs.Writing.{sizeValue, startChecked, Laid};
 ghost use Rattle.text.specs.Text.{ReadTextOutcome, PackSizeOutcome};
 ghost use Rattle.text.specs.Inner.Lines.{hexValue, pairBytes, HexLine};
@@ -73,7 +74,7 @@ fn read_whole(text: &[u8], air: &mut [u8], s: Contents) -> Answer
 // What stands before the packets, then the packets.
 fn put_air(text: &[u8], air: &mut [u8], s: Contents)
     requires { ⌜ Read (now text) s × (s .inside ≡ s .packets) × (startChecked (s .shape) (s .packets) (length (now air)) ≡ passes tt) ⌝ }
-    ensures { λ _. ⌜ ((ks : List Packet) → Scanning (now (text .entry)) s ks → now (air .exit) ≡ airPack (s .shape) ks) ⌝ }
+    ensures { λ _. ⌜ ((ks : List Packet) → Scanning (now (text .entry)) s ks → now (air .exit) ≡ airPack (headerFor (s .shape)) ks) ⌝ }
 {
     let started = pack_writer::start_air(air, s.shape, s.packets as u32);
     let AirStart::Started(first) = started else {

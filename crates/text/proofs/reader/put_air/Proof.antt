@@ -1,7 +1,10 @@
 -- `text::reader::put_air` meets its contract. Assumes nothing.
+use mathlib.Core.Path.{refl}
+use mathlib.Core.Logic.{inl}
 use native.Mathlib.Omega.{arith}
 use Rattle.pack.specs.Packs.{airSize}
-use Rattle.pack.proofs.AirPacks.{airHead-length}
+use Rattle.pack.specs.Reading.{headerWith, headerFor}
+use Rattle.pack.proofs.Written.{airHead-length}
 use Rattle.pack_writer.proofs.Starting.{start-passed}
 use Rattle.text.proofs.Decoding.{start-told, start-refuted, pack-laid}
 use borrow.Author.Needs.{needs}
@@ -27,7 +30,7 @@ returns : tie.Need-returns
 returns c = λ ks h. absurd (start-refuted _ (c .before .before .before .before .start-air .ensures) (c .before .before .before .before .before .before .before .before .before .pre .2) _ (c .enum-told .given .1))
 
 put-packets-requires : tie.Need-put-packets-requires
-unfolding airSize
+unfolding airSize headerFor headerWith
 put-packets-requires c κs =
     let known = c .before .before in
     let s = known .before .before .before .before .before .before .before .before .before in
@@ -38,7 +41,7 @@ put-packets-requires c κs =
       v .l1-high,
       v .l2-high,
       v .l3-high,
-      omega (arith, laid .behind, laid .put .kept .size, size, airHead-length (s .args .s .shape) (s .args .s .packets)),
+      omega (arith, laid .behind, laid .put .kept .size, size, airHead-length (headerFor (s .args .s .shape)) (s .args .s .packets) (inl refl)),
     )
 
 same-length-2 : tie.Need-same-length-2
