@@ -14,17 +14,19 @@ use borrow.Table.Elements.{map-app}
 use Rattle.answer.specs.declared.Refusal.{Refusal}
 use Rattle.answer.specs.declared.Answer.the-variants.{Refused}
 use Rattle.answer.specs.Values.{Checked, passes, fails, check, andThen, checked, refusal, answerValue}
-use Rattle.answer.proofs.Values.{checked-fails}
+use Rattle.answer.proofs.Values.{checked-passes, checked-fails}
 use Rattle.shape.specs.declared.Shape.{Shape}
 use Rattle.pack.specs.declared.Header.{Header}
 use Rattle.pack.specs.declared.Section.{Section}
+use Rattle.pack.specs.declared.AirRead.{AirRead}
+use Rattle.pack.specs.declared.AirRead.the-variants.{Air, Refused as NoAir}
 use Rattle.pack.specs.declared.PartsRead.{PartsRead}
 use Rattle.pack.specs.declared.PartsRead.the-variants.{Parts, Absent}
 use Rattle.pack.specs.Packs.{Packet, upFrom}
 use Rattle.pack.specs.Packets.{packetAt, packetIn, packetsIn, PartsOutcome, FirstOutside}
-use Rattle.pack.specs.Reading.{packetSize, airOf}
+use Rattle.pack.specs.Reading.{packetSize, airOf, plainAirOf, airValue}
 use Rattle.pack.proofs.Sound.{air-sound}
-use Rattle.pack.proofs.Written.{upFrom-more}
+use Rattle.pack.proofs.Sent.{upFrom-more}
 use Rattle.pack.proofs.Naming.{parts-told}
 use Rattle.pack.proofs.AirPacks.{packetIn-size, air-stands}
 use Rattle.printing.specs.Text.{ascii, decimalIn, decimal, hexByte, numbered, triple, numberLine, shapeLine}
@@ -301,14 +303,24 @@ module _ (p : List ℕ) (h : Header) (s : Section) (t u : List ℕ) (x : ℕ) (s
 
 -- ---- the checks
 
+-- what `read_plain_air` told
+module _ (p : List ℕ) (r : AirRead) (e : airValue r ≡ checked (plainAirOf p)) where
+  pub plain-told : (h : Header) (s : Section) → r ≡ Air h s → plainAirOf p ≡ passes (h, s)
+  unfolding airValue
+  plain-told h s q = checked-passes (plainAirOf p) (h, s) (rw q at e)
+
+  pub plain-refused : (f : Refusal) → r ≡ NoAir f → refusal {A = Header × Section} f ≡ checked (plainAirOf p)
+  unfolding airValue
+  plain-refused f q = rw q at e
+
 pub outside-none : (p : List ℕ) (h : Header) (s : Section) (r : ℕ) → FirstOutside p h s r → s .count ≤ r → FirstOutside p h s (s .count)
 outside-none p h s r f l = let e : r ≡ s .count = omega (arith, f .bound) in subst (FirstOutside p h s) e f
 
-pub text-unread : (p before : List ℕ) (f : Refusal) → refusal {A = Header × Section} f ≡ checked (airOf p)
+pub text-unread : (p before : List ℕ) (f : Refusal) → refusal {A = Header × Section} f ≡ checked (plainAirOf p)
     → WriteTextOutcome p before before (answerValue (Refused f))
 unfolding writeTextChecked andThen answerValue
 text-unread p before f e =
-    let (n, failed, value) = checked-fails {B = Unit} (airOf p) f e in
+    let (n, failed, value) = checked-fails {B = Unit} (plainAirOf p) f e in
     let first : writeTextChecked p (length before) ≡ fails n
     = ap (λ (c : Checked (Header × Section)). andThen c (λ air. check (eqb (length before) (length (textIn p air))) 4 (passes air))) failed in
     rw value (write-refused n first refl)

@@ -1,4 +1,4 @@
-// From an air pack to its text: the text's length, and its lines one behind the other in a slice of exactly that length.
+// From an air pack of count 5 to its text: the text's length, and its lines one behind the other in a slice of exactly that length.
 use answer::Answer;
 use answer::Fault;
 use answer::PacketFault;
@@ -14,7 +14,7 @@ ghost use Prim.Native.Nat.{_+_, _*_, _≤_, _<_};
 ghost use lib.ListN.{length, take, drop};
 ghost use Rattle.answer.specs.Values.{answerValue, checked, passes};
 ghost use Rattle.shape.specs.Shapes.{Valid};
-ghost use Rattle.pack.specs.Reading.{airOf};
+ghost use Rattle.pack.specs.Reading.{airOf, plainAirOf};
 ghost use Rattle.pack.specs.Packets.{packetIn, packetsIn};
 ghost use Rattle.pack_writer.specs.Writing.{sizeValue};
 ghost use Rattle.printing.specs.Text.{decimal};
@@ -26,7 +26,7 @@ ghost use Rattle.text.specs.Text.{textIn, textSizeChecked, WriteTextOutcome};
 pub fn text_bytes(air: &[u8]) -> PackSize
     ensures { λ r. ⌜ sizeValue r ≡ checked (textSizeChecked (now (air .entry))) ⌝ }
 {
-    match pack::read_air(air) {
+    match pack::read_plain_air(air) {
         AirRead::Refused(f) => PackSize::Refused(f),
         AirRead::Air(h, s) => PackSize::Bytes(text_length(air, h, s)),
     }
@@ -36,7 +36,7 @@ pub fn text_bytes(air: &[u8]) -> PackSize
 pub fn write_text(air: &[u8], text: &mut [u8]) -> Answer
     ensures { λ r. ⌜ WriteTextOutcome (now (air .entry)) (now (text .entry)) (now (text .exit)) (answerValue r) ⌝ }
 {
-    match pack::read_air(air) {
+    match pack::read_plain_air(air) {
         AirRead::Refused(f) => Answer::Refused(f),
         AirRead::Air(h, s) => write_read(air, text, h, s),
     }
@@ -44,7 +44,7 @@ pub fn write_text(air: &[u8], text: &mut [u8]) -> Answer
 
 // The checks 4 and 11 of a pack that was read, then its text.
 fn write_read(air: &[u8], text: &mut [u8], h: Header, s: Section) -> Answer
-    requires { ⌜ airOf (now air) ≡ passes (h, s) ⌝ }
+    requires { ⌜ plainAirOf (now air) ≡ passes (h, s) ⌝ }
     ensures { λ r. ⌜ WriteTextOutcome (now (air .entry)) (now (text .entry)) (now (text .exit)) (answerValue r) ⌝ }
 {
     if text.len() != text_length(air, h, s) {

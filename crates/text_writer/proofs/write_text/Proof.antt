@@ -1,12 +1,11 @@
 -- `text_writer::write_text` meets its contract. Assumes nothing.
 use borrow.Author.Needs.{needs}
-use Rattle.pack.proofs.Sound.{air-told, air-refused}
-use Rattle.text_writer.proofs.TextLines.{text-unread}
+use Rattle.text_writer.proofs.TextLines.{plain-told, plain-refused, text-unread}
 use Rattle.text_writer.proofs.write_text.Statement.{statement}
 use Rattle.text_writer.proofs.write_text.Tie as tie
 
-read-air-requires : tie.Need-read-air-requires
-read-air-requires c κs = search needs
+read-plain-air-requires : tie.Need-read-plain-air-requires
+read-plain-air-requires c κs = search needs
 
 enum-known-f : tie.Need-enum-known-f
 enum-known-f c = search needs
@@ -15,10 +14,10 @@ enum-known-h : tie.Need-enum-known-h
 enum-known-h c = search needs
 
 write-read-requires : tie.Need-write-read-requires
-write-read-requires c κs = air-told _ _ (c .before .before .before .before .read-air .ensures) _ _ (c .before .before .h .given .1)
+write-read-requires c κs = plain-told _ _ (c .before .before .before .before .read-plain-air .ensures) _ _ (c .before .before .h .given .1)
 
 returns : tie.Need-returns
-returns c = text-unread _ _ _ (air-refused _ _ (c .before .before .before .read-air .ensures) _ (c .before .f .given .1))
+returns c = text-unread _ _ _ (plain-refused _ _ (c .before .before .before .read-plain-air .ensures) _ (c .before .f .given .1))
 
 same-length : tie.Need-same-length
 same-length c = search needs
@@ -30,7 +29,7 @@ pub write-text-spec : {M : Type 1} → statement M
 write-text-spec =
     tie.close
     (tie.spec
-    read-air-requires
+    read-plain-air-requires
     enum-known-f
     enum-known-h
     write-read-requires
