@@ -38,8 +38,23 @@ used-le h v most =
 module _ (h : Header) (v : ℕ) (xs ys : List ℕ)
     (set : SetTo (heldData (h .shape) xs) (h .used * h .shape .w) (capacity (h .shape) - h .used * h .shape .w) v (heldData (h .shape) ys))
     (kept : ParityKept (h .shape) xs ys) (w : ℕ) (lw : w < h .shape .w) where
-  cell-set : (a b c : ℕ) → a < h .shape .l1 → b < h .shape .l2 → c < h .shape .l3
-      → layer (h .shape) ys w (cell (h .shape) a b c) ≡ cond (unsent h (cell (h .shape) a b c)) v (layer (h .shape) xs w (cell (h .shape) a b c))
+  -- what stands in cell n then
+  abbrev Set : ℕ → Type 0
+  Set n = layer (h .shape) ys w n ≡ cond (unsent h n) v (layer (h .shape) xs w n)
+
+  data-cell-set : (a b c : ℕ) → a < h .shape .l1 - 2 → b < h .shape .l2 - 2 → c < h .shape .l3 - 2 → Set (cell (h .shape) a b c)
+  data-cell-set a b c la lb lc =
+      let rank : ℕ = a + (h .shape .l1 - 2) * (b + (h .shape .l2 - 2) * c) in
+      let out = data-unsent h a b c (omega arith) (omega arith) la lb lc in
+      elim (decLe (h .used) rank) [
+        | yes l ↦ rw (out, le-leb (h .used) rank l)
+            (set-cell (h .shape) xs ys _ v set a b c w la lb lc lw (omega (arith, mul-le-mul-right (h .shape .w) l)))
+        | no l ↦ let less : rank < h .used = omega arith in
+            rw (out, lt-leb (h .used) rank less)
+            (set-cell-kept (h .shape) xs ys _ v set a b c w la lb lc lw (omega (arith, stretch-end rank (h .used) (h .shape .w) less)))
+      ]
+
+  cell-set : (a b c : ℕ) → a < h .shape .l1 → b < h .shape .l2 → c < h .shape .l3 → Set (cell (h .shape) a b c)
   cell-set a b c la lb lc =
       elim (decLt a (h .shape .l1 - 2)) [
         | no past ↦ rw (parity-1 h a b c la lb (omega arith)) (kept .bytes a b c w la lb lc lw (λ (p : _). past (p .0)))
@@ -47,28 +62,16 @@ module _ (h : Header) (v : ℕ) (xs ys : List ℕ)
           | no past ↦ rw (parity-2 h a b c la lb (omega arith)) (kept .bytes a b c w la lb lc lw (λ (p : _). past (p .1)))
           | yes db ↦ elim (decLt c (h .shape .l3 - 2)) [
             | no past ↦ rw (parity-3 h a b c la lb (omega arith)) (kept .bytes a b c w la lb lc lw (λ (p : _). past (p .2)))
-            | yes dc ↦ data-cell-set a b c la lb da db dc
+            | yes dc ↦ data-cell-set a b c da db dc
           ]
         ]
       ]
-    where
-      data-cell-set : (a b c : ℕ) → a < h .shape .l1 → b < h .shape .l2 → a < h .shape .l1 - 2 → b < h .shape .l2 - 2 → c < h .shape .l3 - 2
-          → layer (h .shape) ys w (cell (h .shape) a b c) ≡ cond (unsent h (cell (h .shape) a b c)) v (layer (h .shape) xs w (cell (h .shape) a b c))
-      data-cell-set a b c la lb da db dc =
-          let rank : ℕ = a + (h .shape .l1 - 2) * (b + (h .shape .l2 - 2) * c) in
-          elim (decLe (h .used) rank) [
-            | yes l ↦ rw (data-unsent h a b c la lb da db dc, le-leb (h .used) rank l)
-                (set-cell (h .shape) xs ys _ v set a b c w da db dc lw (omega (arith, mul-le-mul-right (h .shape .w) l)))
-            | no l ↦ let less : rank < h .used = omega arith in
-                rw (data-unsent h a b c la lb da db dc, lt-leb (h .used) rank less)
-                (set-cell-kept (h .shape) xs ys _ v set a b c w da db dc lw (omega (arith, stretch-end rank (h .used) (h .shape .w) less)))
-          ]
 
   pub unsent-set : Valid (h .shape) → (m : ℕ) → m < cells (h .shape) → layer (h .shape) ys w m ≡ cond (unsent h m) v (layer (h .shape) xs w m)
   unsent-set valid m l =
       let one : 0 < h .shape .l1 = omega (arith, valid .l1-low) in
       let two : 0 < h .shape .l2 = omega (arith, valid .l2-low) in
-      subst (λ (n : ℕ). layer (h .shape) ys w n ≡ cond (unsent h n) v (layer (h .shape) xs w n)) (cell-coordinates (h .shape) m)
+      subst Set (cell-coordinates (h .shape) m)
       (cell-set _ _ _ (mod-lt m one) (mod-lt _ two) (third-lt (h .shape) m (mul-pos one two) l))
 
 -- ---- cells of single bytes
@@ -109,7 +112,8 @@ unfolding layer
 flags-set h v fs gs valid set kept m l =
     let place : m * 1 + 0 ≡ m = omega arith in
     rw (place, single-unsent h m) at
-    (unsent-set (asSingle h) v fs gs (rw (mul-one (h .used)) set) kept 0 (omega arith) (single-valid (h .shape) valid) m (omega (arith, single-cells (h .shape))))
+    (unsent-set (asSingle h) v fs gs (rw (mul-one (h .used)) set) kept 0 (omega arith) (single-valid (h .shape) valid) m
+    (omega (arith, single-cells (h .shape))))
 
 -- ---- none yet
 

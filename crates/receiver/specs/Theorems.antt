@@ -1,5 +1,5 @@
--- What document 01 and the requests P3 and P5 say of the receiver, as theorems about the definitions; proofs/Determined.antt, proofs/NoPackets.antt and
--- proofs/Copies.antt have the proofs. r is a byte whose polynomial is primitive.
+-- What document 01 and the requests P3 and P5 say of the receiver, as theorems about the definitions; proofs/Determined.antt,
+-- proofs/NoPackets.antt and proofs/Copies.antt have the proofs. r is a byte whose polynomial is primitive.
 use mathlib.Core.Path.{_≡_}
 use mathlib.Core.Bool.{Bool, true}
 use mathlib.Core.List.{List}

@@ -40,8 +40,8 @@ pub(crate) fn place(air: &[u8], cube: &mut [u8], flags: &mut [u8], h: Header, s:
     }
 }
 
-// What stands before any packet: cells that are sent are missing; those that are not are known and 00h. The flags are a cube of single bytes, so
-// that one call finds the unsent cells in both.
+// What stands before any packet: cells that are sent are missing, unsent ones are known and 00h. The flags are a cube of single bytes, so one call
+// finds the unsent cells in both.
 fn begin(cube: &mut [u8], flags: &mut [u8], h: Header)
     requires { ⌜ Valid (h .shape) × (h .used ≤ dataCells (h .shape))
         × (length (now cube) ≡ h .shape .w * cells (h .shape)) × (length (now flags) ≡ cells (h .shape)) ⌝ }
