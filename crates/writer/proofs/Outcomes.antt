@@ -1,14 +1,11 @@
--- From the parts to the whole: the encoded file, and the writer's answer.
-use mathlib.Core.Path.{_≡_, refl, sym, ap, _∙_}
-use mathlib.Core.Bool.{Bool, true, false}
-use mathlib.Core.List.{List, _++_}
-use Prim.Native.Nat.{ℕ, _+_, _-_, _*_, _≤_, _<_}
-use native.Mathlib.Decide.{decLt}
-use native.Mathlib.Nat.{mul-le-mul, mul-comm, sub-le}
+-- From the parts to the whole: the data string in the cube, its code cube, and the writer's answer.
+use mathlib.Core.Path.{_≡_, refl, _∙_}
+use mathlib.Core.Bool.{true, false}
+use mathlib.Core.List.{List}
+use Prim.Native.Nat.{ℕ, _+_, _-_, _*_, _<_}
 use native.Mathlib.Omega.{arith}
 use lib.Dec.{eqb}
-use lib.ListN.{length, getD, take, drop, length-append, List·getD-eq-default}
-use lib.Seq.{length-take-le, take-at, getD-take}
+use lib.ListN.{length, getD, take, drop}
 use borrow.Author.Tests.{eqb-true}
 use Rattle.answer.specs.declared.Fault.the-variants.{SliceLength}
 use Rattle.answer.specs.declared.Refusal.{Refusal}
@@ -16,98 +13,75 @@ use Rattle.answer.specs.declared.Refusal.the-variants.{Plain}
 use Rattle.answer.specs.declared.Answer.the-variants.{Done, Refused}
 use Rattle.answer.specs.Refusals.{faultNumber}
 use Rattle.answer.specs.Values.{Value, passes, check, andThen, checked, refusal, answerValue}
-use Rattle.answer.proofs.Values.{passes-fails, checked-fails, then-refused}
+use Rattle.answer.proofs.Values.{checked-fails, then-refused}
 use Rattle.field.specs.Field.{Primitive}
-use Rattle.shape.specs.declared.Shape.{Shape}
-use Rattle.shape.specs.declared.Sizes.{Sizes}
+use Rattle.span.specs.Span.{SetTo}
+use Rattle.span.proofs.Putting.{copied-put}
 use Rattle.shape.specs.Shapes.{both, cells, capacity, sizes}
 use Rattle.shape.proofs.Valid.{both-parts}
-use Rattle.data.specs.Calls.{slicesChecked}
-use Rattle.cube.specs.Calls.{EncodeOutcome, encode-refused, encode-done}
-use Rattle.cube.specs.Theorems.{OnlyCodeCube}
-use Rattle.data.proofs.Checks.{done-checked}
-use Rattle.cube.proofs.Outcomes.{encode-one}
+use Rattle.data.specs.Data.{heldData}
+use Rattle.data.specs.Calls.{SetOutcome, WriteOutcome as DataOutcome}
+use Rattle.data.proofs.Checks.{cube-done-checked, write-done-checked}
+use Rattle.data.proofs.HeldData.{length-heldData, heldData-lt}
+use Rattle.data.proofs.Writing.{data-built}
+use Rattle.data.proofs.Outcomes.{write-works, set-works}
+use Rattle.cube.specs.Calls.{CompleteOutcome}
+use Rattle.cube.specs.Theorems.{OnlyCodeCube, OneCodeCube}
+use Rattle.cube.proofs.Existence.{one-code-cube}
+use Rattle.cube.proofs.Outcomes.{complete-works}
+use Rattle.cursor.specs.Steps.{wordBytes}
 use Rattle.pack.specs.declared.Header.{Header}
 use Rattle.pack.specs.declared.Section.{Section}
-use Rattle.pack.specs.Packs.{airSize, packSize, padded, dataString}
+use Rattle.pack.specs.Packs.{packSize, dataString}
 use Rattle.pack.specs.Reading.{jobOf, fileOf}
 use Rattle.pack.proofs.Sound.{JobSound}
-use Rattle.pack.proofs.Written.{dataString-length}
-use Rattle.pack_writer.specs.Writing.{DataOutcome}
 use Rattle.pack_writer.proofs.Laying.{part-length}
 use Rattle.writer.specs.Write.{writeChecked, Written, WriteOutcome, write-refused, write-done}
 
--- ---- the encoded file
+-- ---- the file in the cube
 
--- the data string fits in the output's first bytes
-pub capacity-le-packSize : (sh : Shape) → capacity sh ≤ packSize sh
-unfolding capacity packSize airSize cells
-capacity-le-packSize sh =
-    let d : (sh .l1 - 2) * (sh .l2 - 2) * (sh .l3 - 2) ≤ sh .l1 * sh .l2 * sh .l3
-    = mul-le-mul (mul-le-mul (sub-le (sh .l1) 2) (sub-le (sh .l2) 2)) (sub-le (sh .l3) 2) in
-    let m : sh .w * ((sh .l1 - 2) * (sh .l2 - 2) * (sh .l3 - 2)) ≤ (3 + sh .w) * (sh .l1 * sh .l2 * sh .l3)
-    = mul-le-mul (omega arith) d in
-    omega (arith, mul-comm (sh .l1 * sh .l2 * sh .l3) (3 + sh .w))
+module _ (job : List ℕ) (h : Header) (file : Section) (sound : JobSound job h file) where
+  -- the three calls that lay it find room, so none of them refuses
+  pub file-laid : (start one two after : List ℕ) {a b c : Value Unit} → length start ≡ h .shape .w * cells (h .shape)
+      → DataOutcome (h .shape) (wordBytes (file .count)) 0 0 4 start one a
+      → DataOutcome (h .shape) job (file .at) 4 (file .count) one two b
+      → SetOutcome (h .shape) (4 + file .count) 0 two after c
+      → heldData (h .shape) after ≡ dataString (h .shape) (fileOf job file)
+  unfolding dataString fileOf wordBytes
+  file-laid start one two after size first second third =
+      let sh = h .shape in
+      let n = file .count in
+      let v = sound .header .valid in
+      let body : List ℕ = take n (drop (file .at) job) in
+      let (_, head, kept) = write-works (write-done-checked sh (length start) 4 0 0 4 v size (omega (arith, sound .room)) (omega arith)) first in
+      let (_, copied, kept′) =
+      write-works (write-done-checked sh (length one) (length job) (file .at) 4 n v (kept .size ∙ size) (sound .room) (sound .inside)) second in
+      let (_, rest, _) = set-works (cube-done-checked sh (length two) v (kept′ .size ∙ kept .size ∙ size)) third in
+      let count : length body ≡ n = part-length job (file .at) n (sound .inside) in
+      let zeros : SetTo (heldData sh two) (4 + length body) (capacity sh - (4 + length body)) 0 (heldData sh after) = rw count rest in
+      let left : capacity sh - (4 + length body) ≡ capacity sh - 4 - length body = omega arith in
+      data-built sh start one two after (wordBytes n) body 0 (omega (arith, sound .room)) head (copied-put (sound .inside) copied) zeros
+      ∙ rw (left, count)
 
--- the header's capacity is the shape's
-pub measured-capacity : (job : List ℕ) (h : Header) (file : Section) → JobSound job h file → h .sizes .capacity ≡ capacity (h .shape)
-unfolding sizes
-measured-capacity job h file sound = ap (λ (z : Sizes). z .capacity) (sound .header .measured)
+  -- and its code cube
+  pub file-encoded : (r : ℕ) (xs after : List ℕ) {v : Value Unit} → Primitive r → length xs ≡ h .shape .w * cells (h .shape)
+      → ((i : ℕ) → getD xs i 0 < 256) → heldData (h .shape) xs ≡ dataString (h .shape) (fileOf job file)
+      → CompleteOutcome r (h .shape) xs after v → OnlyCodeCube r (h .shape) (dataString (h .shape) (fileOf job file)) after
+  unfolding OneCodeCube
+  file-encoded r xs after p size bytes laid outcome =
+      let sh = h .shape in
+      let v = sound .header .valid in
+      let (_, same) = complete-works (cube-done-checked sh (length xs) v size) outcome in
+      rw (same, ← laid) (one-code-cube r p sh v (heldData sh xs) (length-heldData sh xs) (heldData-lt sh xs bytes))
 
--- a part of the output's first bytes that has come back
-pub prefix-le : (part out : List ℕ) (n : ℕ) → length part ≡ length (take n out) → n ≤ length out → n ≤ length (part ++ drop n out)
-prefix-le part out n e h =
-    let l = length-take-le n out h in
-    omega (arith, length-append part (drop n out))
+  -- ---- the answer
 
-take-bytes : (n : ℕ) (l : List ℕ) → n ≤ length l → ((i : ℕ) → getD l i 0 < 256) → (i : ℕ) → getD (take n l) i 0 < 256
-take-bytes n l h bytes i = elim (decLt i n) [
-  | yes less ↦ rw (getD-take n l i 0 less) (bytes i)
-  | no more ↦ omega (arith, List·getD-eq-default (take n l) 0 {n = i} (omega (arith, length-take-le n l h)))
-]
-
-only-encoded : (r : ℕ) (sh : Shape) (ds xs after : List ℕ) (v : Value Unit) → Primitive r → ((i : ℕ) → getD ds i 0 < 256)
-    → slicesChecked sh (length ds) (length xs) ≡ passes tt → EncodeOutcome r sh ds xs after v → OnlyCodeCube r sh ds after
-only-encoded r sh ds xs after v p bytes fit (encode-refused n failed kept) = absurd (passes-fails tt n (sym fit ∙ failed))
-only-encoded r sh ds xs after v p bytes fit (encode-done passed same) = encode-one r sh ds xs after p bytes (encode-done passed same)
-
--- the data string is built in the output's first bytes
-pub file-laid : (job out built : List ℕ) (h : Header) (file : Section) (n : ℕ) (answer : Bool) → JobSound job h file → length out ≡ packSize (h .shape)
-    → n ≡ capacity (h .shape) → DataOutcome job file (take n out) built answer
-    → take n (built ++ drop n out) ≡ dataString (h .shape) (fileOf job file)
-unfolding dataString fileOf
-file-laid job out built h file n answer sound room same made =
-    let sh = h .shape in
-    let le = capacity-le-packSize sh in
-    let l : length (take n out) ≡ capacity sh = length-take-le n out (omega arith) ∙ same in
-    let padding : built ≡ padded (length (take n out)) (fileOf job file) = made .done (sound .inside, omega (arith, sound .room)) .1 in
-    let ds : built ≡ padded (capacity sh) (fileOf job file) = rw l at padding in
-    let count = part-length job (file .at) (file .count) (sound .inside) in
-    let whole : length built ≡ capacity sh = ap length ds ∙ dataString-length sh (fileOf job file) (omega (arith, sound .room)) in
-    take-at built (drop n out) n (whole ∙ sym same) ∙ ds
-
--- and encoded from there
-pub file-encoded : (r : ℕ) (job out xs after : List ℕ) (h : Header) (file : Section) (v : Value Unit) → Primitive r → JobSound job h file
-    → length xs ≡ h .shape .w * cells (h .shape) → h .sizes .capacity ≤ length out
-    → take (h .sizes .capacity) out ≡ dataString (h .shape) (fileOf job file) → ((i : ℕ) → getD out i 0 < 256)
-    → EncodeOutcome r (h .shape) (take (h .sizes .capacity) out) xs after v
-    → OnlyCodeCube r (h .shape) (dataString (h .shape) (fileOf job file)) after
-file-encoded r job out xs after h file v p sound size room laid bytes outcome =
-    let sh = h .shape in
-    let n = h .sizes .capacity in
-    let whole : length (take n out) ≡ capacity sh = length-take-le n out room ∙ measured-capacity job h file sound in
-    rw laid at (only-encoded r sh (take n out) xs after v p (take-bytes n out room bytes)
-    (done-checked sh (length (take n out)) (length xs) (sound .header .valid) whole size) outcome)
-
--- ---- the answer
-
-pub fits-parts : (job : List ℕ) (h : Header) (file : Section) (bytes output : ℕ) → JobSound job h file
-    → both (eqb bytes (h .sizes .bytes)) (eqb output (packSize (h .shape))) ≡ true
-    → (bytes ≡ h .shape .w * cells (h .shape)) × (output ≡ packSize (h .shape))
-unfolding sizes
-fits-parts job h file bytes output sound e =
-    let (p, q) = both-parts (eqb bytes (h .sizes .bytes)) (eqb output (packSize (h .shape))) e in
-    (rw (sound .header .measured) at (eqb-true bytes (h .sizes .bytes) p), eqb-true output (packSize (h .shape)) q)
+  pub fits-parts : (bytes output : ℕ) → both (eqb bytes (h .sizes .bytes)) (eqb output (packSize h)) ≡ true
+      → (bytes ≡ h .shape .w * cells (h .shape)) × (output ≡ packSize h)
+  unfolding sizes
+  fits-parts bytes output e =
+      let (p, q) = both-parts (eqb bytes (h .sizes .bytes)) (eqb output (packSize h)) e in
+      (rw (sound .header .measured) at (eqb-true bytes (h .sizes .bytes) p), eqb-true output (packSize h) q)
 
 module _ (r : ℕ) (p xs out : List ℕ) where
   pub unread-job : (f : Refusal) → refusal {A = Header × Section} f ≡ checked (jobOf p) → WriteOutcome r p xs out xs out (answerValue (Refused f))
@@ -117,12 +91,12 @@ module _ (r : ℕ) (p xs out : List ℕ) where
       rw value (write-refused n failed refl refl)
 
   module _ (h : Header) (file : Section) (e : jobOf p ≡ passes (h, file)) where
-    pub unfit-slices : both (eqb (length xs) (h .sizes .bytes)) (eqb (length out) (packSize (h .shape))) ≡ false
+    pub unfit-slices : both (eqb (length xs) (h .sizes .bytes)) (eqb (length out) (packSize h)) ≡ false
         → WriteOutcome r p xs out xs out (answerValue (Refused (Plain SliceLength)))
     unfolding writeChecked andThen check answerValue refusal faultNumber
     unfit-slices t = write-refused 4 (rw (e, t)) refl refl
 
-    pub written-job : (xs′ out′ : List ℕ) → both (eqb (length xs) (h .sizes .bytes)) (eqb (length out) (packSize (h .shape))) ≡ true
-        → Written r (h .shape) (fileOf p file) xs′ out′ → WriteOutcome r p xs out xs′ out′ (answerValue Done)
+    pub written-job : (xs′ out′ : List ℕ) → both (eqb (length xs) (h .sizes .bytes)) (eqb (length out) (packSize h)) ≡ true
+        → Written r h (fileOf p file) xs′ out′ → WriteOutcome r p xs out xs′ out′ (answerValue Done)
     unfolding writeChecked andThen check answerValue
     written-job xs′ out′ t w = write-done h file (rw (e, t)) w

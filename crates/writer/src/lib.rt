@@ -1,4 +1,4 @@
-// The writer: a job pack with a file becomes an air pack with every packet of the file's code cube.
+// The writer: a job pack with a file becomes an air pack of every cell of the file's code cube that is sent.
 use answer::Answer;
 use answer::Fault;
 use answer::Refusal;
@@ -7,17 +7,19 @@ use pack::JobRead;
 use pack::Section;
 use pack_writer::PackSize;
 ghost use mathlib.Core.Path.{_≡_};
+ghost use Prim.Native.Nat.{_*_};
 ghost use lib.Dec.{eqb};
-ghost use lib.ListN.{length, take};
+ghost use lib.ListN.{length};
 ghost use Rattle.answer.specs.Values.{answerValue};
 ghost use Rattle.field.specs.Field.{reduction};
-ghost use Rattle.shape.specs.Shapes.{Valid, both};
+ghost use Rattle.shape.specs.Shapes.{both, cells};
+ghost use Rattle.data.specs.Data.{heldData};
 ghost use Rattle.pack.specs.Packs.{packSize, dataString};
 ghost use Rattle.pack.specs.Reading.{fileOf};
-ghost use Rattle.pack.proofs.Sound.{JobSound};
+ghost use Rattle.pack.proofs.Sound.{HeaderSent, JobSound};
 ghost use Rattle.writer.specs.Write.{WriteOutcome};
 
-// Writes the code cube of the pack's file to `cube` and the pack of its packets to `output`.
+// Writes the code cube of the pack's file to `cube` and the pack of its cells that are sent to `output`. All checks come before the first byte.
 pub fn write_pack(job: &[u8], cube: &mut [u8], output: &mut [u8]) -> Answer
     ensures { λ r. ⌜ WriteOutcome reduction (now (job .entry)) (now (cube .entry)) (now (output .entry)) (now (cube .exit)) (now (output .exit)) (answerValue r) ⌝ }
 {
@@ -27,10 +29,9 @@ pub fn write_pack(job: &[u8], cube: &mut [u8], output: &mut [u8]) -> Answer
             if !slices_fit(h, cube.len(), output.len()) {
                 return Answer::Refused(Refusal::Plain(Fault::SliceLength));
             }
-            lay_file(job, output, h, file);
-            let capacity = h.sizes.capacity;
-            cube::encode(&output[..capacity], cube, h.shape);
-            pack_writer::write_air(cube, output, h.shape);
+            lay_file(job, cube, h, file);
+            cube::complete(cube, h.shape);
+            pack_writer::write_air(cube, output, h);
             Answer::Done
         }
     }
@@ -38,10 +39,10 @@ pub fn write_pack(job: &[u8], cube: &mut [u8], output: &mut [u8]) -> Answer
 
 // Whether the cube and the output have the lengths that the header asks for.
 fn slices_fit(h: Header, bytes: usize, output: usize) -> bool
-    requires { ⌜ Valid (h .shape) ⌝ }
-    ensures { λ r. ⌜ r ≡ both (eqb bytes (h .sizes .bytes)) (eqb output (packSize (h .shape))) ⌝ }
+    requires { ⌜ HeaderSent h ⌝ }
+    ensures { λ r. ⌜ r ≡ both (eqb bytes (h .sizes .bytes)) (eqb output (packSize h)) ⌝ }
 {
-    let asked = pack_writer::pack_bytes(h.shape);
+    let asked = pack_writer::written_bytes(h);
     let PackSize::Bytes(size) = asked else {
         return false;
     };
@@ -49,12 +50,15 @@ fn slices_fit(h: Header, bytes: usize, output: usize) -> bool
     bytes == sizes.bytes && output == size
 }
 
-// Builds the data string in the output's first bytes, which the pack overwrites later.
-fn lay_file(job: &[u8], output: &mut [u8], h: Header, file: Section)
-    requires { ⌜ JobSound (now job) h file × (length (now output) ≡ packSize (h .shape)) ⌝ }
-    ensures { λ _. ⌜ take (h .sizes .capacity) (now (output .exit)) ≡ dataString (h .shape) (fileOf (now (job .entry)) file) ⌝ }
+// Puts the data string into the cube's data cells: the file's length, the file, and 00h behind it.
+fn lay_file(job: &[u8], cube: &mut [u8], h: Header, file: Section)
+    requires { ⌜ JobSound (now job) h file × (length (now cube) ≡ h .shape .w * cells (h .shape)) ⌝ }
+    ensures { λ _. ⌜ heldData (h .shape) (now (cube .exit)) ≡ dataString (h .shape) (fileOf (now (job .entry)) file) ⌝ }
 {
-    let sizes = h.sizes;
-    let capacity = sizes.capacity;
-    pack_writer::write_data(job, file, &mut output[..capacity]);
+    let sh = h.shape;
+    let n = file.count;
+    let bytes = cursor::count_bytes(n);
+    data::write_data(&bytes, cube, sh, 0, 0, 4);
+    data::write_data(job, cube, sh, file.at, 4, n);
+    data::set_data(cube, sh, 4 + n, 0);
 }
