@@ -1,8 +1,7 @@
 -- From what was put into the output to what Write prints.
 use mathlib.Core.Path.{_≡_, sym, ap, _∙_}
 use mathlib.Core.List.{List, _++_}
-use Prim.Native.Nat.{ℕ, _+_, _*_, _≤_, _<_}
-use native.Mathlib.Nat.{mul-comm, mul-le-mul-left}
+use Prim.Native.Nat.{ℕ, _*_, _≤_, _<_}
 use native.Mathlib.Omega.{arith}
 use lib.ListN.{length, take, drop, length-append}
 use lib.Seq.{take-at, length-take-le}
@@ -12,12 +11,11 @@ use Rattle.field.specs.Field.{reduction}
 use Rattle.answer.specs.declared.Refusal.{Refusal}
 use Rattle.answer.specs.Values.{Value, passes, check, andThen, checked, refusal, numberOf}
 use Rattle.answer.proofs.Values.{passes-fails, checked-fails}
-use Rattle.shape.specs.declared.Shape.{Shape}
 use Rattle.shape.specs.Shapes.{cells, sizes}
 use Rattle.shape.proofs.Valid.{both-true}
 use Rattle.pack.specs.declared.Header.{Header}
 use Rattle.pack.specs.declared.Section.{Section}
-use Rattle.pack.specs.Packs.{airSize, packSize}
+use Rattle.pack.specs.Packs.{packSize}
 use Rattle.pack.specs.Reading.{jobOf}
 use Rattle.pack.proofs.Sound.{job-sound}
 use Rattle.writer.specs.Write.{writeChecked, WriteOutcome, write-refused, write-done}
@@ -25,7 +23,7 @@ use Rattle.printing.specs.Text.{ascii, refusedLine, tooBigLine}
 use Rattle.printing.specs.Append.{Appended}
 use Rattle.printing.proofs.Appending.{append-whole}
 use Rattle.printing.proofs.Numerals.{length-refusedLine}
-use Rattle.write.specs.Prints.{Prints, input-too-big, input-refused, pack-too-big, pack}
+use Rattle.write.specs.Prints.{Prints, input-too-big, input-refused, cube-too-big, pack-too-big, pack}
 
 -- ---- a line
 
@@ -49,48 +47,39 @@ module _ (p out after : List ℕ) (end : ℕ) (size : length out ≡ 65536) wher
         let same : n ≡ m = e ∙ ap numberOf value in
         line-printed (refusedLine n) (omega (arith, length-refusedLine n)) a (rw same (input-refused m short failed))
 
-    pub pack-too-big-printed : Appended out 0 (ascii "too big\n") after end → (h : Header) (s : Section) → jobOf p ≡ passes (h, s)
-        → 65536 < packSize (h .shape) → Counts end after × Prints p (take end after)
-    unfolding tooBigLine
-    pack-too-big-printed a h s e l = line-printed (ascii "too big\n") (omega arith) a (pack-too-big h s short e l)
+    module _ (h : Header) (s : Section) (job : jobOf p ≡ passes (h, s)) (a : Appended out 0 (ascii "too big\n") after end) where
+      pub cube-too-big-printed : 65536 < h .sizes .bytes → Counts end after × Prints p (take end after)
+      unfolding tooBigLine sizes
+      cube-too-big-printed l =
+          let big : 65536 < h .shape .w * cells (h .shape) = rw (job-sound p h s job .header .measured) at l in
+          line-printed (ascii "too big\n") (omega arith) a (cube-too-big h s short job big)
+
+      pub pack-too-big-printed : 65536 < packSize h → Counts end after × Prints p (take end after)
+      unfolding tooBigLine
+      pack-too-big-printed l = line-printed (ascii "too big\n") (omega arith) a (pack-too-big h s short job l)
 
 -- ---- the pack
 
--- the cube is smaller than the pack
-cube-le-pack : (sh : Shape) → sh .w * cells sh ≤ packSize sh
-unfolding packSize airSize
-cube-le-pack sh =
-    let m : cells sh * sh .w ≤ cells sh * (3 + sh .w) = mul-le-mul-left (cells sh) (omega arith) in
-    omega (arith, mul-comm (sh .w) (cells sh))
-
-module _ (p : List ℕ) (h : Header) (s : Section) (job : jobOf p ≡ passes (h, s)) where
+module _ (p : List ℕ) (h : Header) (s : Section) (job : jobOf p ≡ passes (h, s)) (short : length p ≤ 65536) (cube : h .sizes .bytes ≤ 65536) where
   -- with exact lengths nothing is refused
-  written-prints : (xs out xs′ out′ : List ℕ) {v : Value Unit} → length p ≤ 65536 → packSize (h .shape) ≤ 65536
-      → length xs ≡ h .sizes .bytes → length out ≡ packSize (h .shape) → WriteOutcome reduction p xs out xs′ out′ v → Prints p out′
-  unfolding writeChecked andThen check
-  written-prints xs out xs′ out′ short fits cube output (write-refused n refused _ _) =
+  written-prints : (xs out xs′ out′ : List ℕ) {v : Value Unit} → packSize h ≤ 65536 → length xs ≡ h .sizes .bytes → length out ≡ packSize h
+      → WriteOutcome reduction p xs out xs′ out′ v → Prints p out′
+  unfolding writeChecked andThen check sizes
+  written-prints xs out xs′ out′ fits bytes output (write-refused n refused _ _) =
       let done : writeChecked p (length xs) (length out) ≡ passes (h, s)
-      = rw (job, both-true _ _ (eq-eqb (length xs) _ cube) (eq-eqb (length out) _ output)) in
+      = rw (job, both-true _ _ (eq-eqb (length xs) _ bytes) (eq-eqb (length out) _ output)) in
       absurd (passes-fails (h, s) n (sym done ∙ refused))
-  written-prints xs out xs′ out′ short fits cube output (write-done g t checks w) =
-      pack h s short job fits xs out xs′ out′ (write-done g t checks w)
+  written-prints xs out xs′ out′ fits bytes output (write-done g t checks w) =
+      let small : h .shape .w * cells (h .shape) ≤ 65536 = rw (job-sound p h s job .header .measured) at cube in
+      pack h s short job small fits xs out xs′ out′ (write-done g t checks w)
 
-  -- so the parts that are lent lie in memory
-  pub cube-fits : (size : ℕ) → size ≡ packSize (h .shape) → size ≤ 65536 → h .sizes .bytes ≤ 65536
-  unfolding sizes
-  cube-fits size e l =
-      let b : h .sizes .bytes ≡ h .shape .w * cells (h .shape) = rw (job-sound p h s job .header .measured) in
-      omega (arith, cube-le-pack (h .shape))
-
-  pub pack-printed : (xs out xs′ out′ : List ℕ) (size : ℕ) {v : Value Unit} → length p ≤ 65536
-      → length xs ≡ 65536 → length out ≡ 65536 → size ≡ packSize (h .shape) → size ≤ 65536 → length out′ ≡ length (take size out)
-      → WriteOutcome reduction p (take (h .sizes .bytes) xs) (take size out) xs′ out′ v
+  pub pack-printed : (xs out xs′ out′ : List ℕ) (size : ℕ) {v : Value Unit} → length xs ≡ 65536 → length out ≡ 65536 → size ≡ packSize h
+      → size ≤ 65536 → length out′ ≡ length (take size out) → WriteOutcome reduction p (take (h .sizes .bytes) xs) (take size out) xs′ out′ v
       → Counts size (out′ ++ drop size out) × Prints p (take size (out′ ++ drop size out))
-  pack-printed xs out xs′ out′ size short cube output e fits kept o =
-      let b = cube-fits size e fits in
+  pack-printed xs out xs′ out′ size whole room e fits kept o =
       let m : length (take size out) ≡ size = length-take-le size out (omega arith) in
       let k : length (take (h .sizes .bytes) xs) ≡ h .sizes .bytes = length-take-le _ xs (omega arith) in
       let part : take size (out′ ++ drop size out) ≡ out′ = take-at out′ (drop size out) size (kept ∙ m) in (
         (omega (arith, length-append out′ (drop size out)), sym (ap length part ∙ kept ∙ m)),
-        rw part (written-prints (take (h .sizes .bytes) xs) (take size out) xs′ out′ short (omega arith) k (m ∙ e) o),
+        rw part (written-prints (take (h .sizes .bytes) xs) (take size out) xs′ out′ (omega arith) k (m ∙ e) o),
       )

@@ -1,4 +1,4 @@
-// Write: reads a job pack on standard input and writes the pack of every packet of its file, or says why not.
+// Write: reads a job pack on standard input and writes the air pack of its file, or says why not.
 use libc::STDIN_FILENO;
 use libc::STDOUT_FILENO;
 use pack::Header;
@@ -39,21 +39,25 @@ fn print(job: &[u8], cube: &mut [u8], output: &mut [u8]) -> usize
     }
 }
 
-// The same for a job that passes the checks down to 8, and so has a size: the pack of its packets, in memory of the exact lengths.
+// The same for a job that passes the checks down to 8: the pack of its cells that are sent, in memory of the exact lengths. Unsent cells can make the
+// pack smaller than its cube, so both are compared.
 fn print_pack(job: &[u8], cube: &mut [u8], output: &mut [u8], h: Header) -> usize
     requires { ⌜ (length (now cube) ≡ 65536) × (length (now output) ≡ 65536) × (length (now job) ≤ 65536)
         × ((s : Section) × (jobOf (now job) ≡ passes (h, s))) ⌝ }
     ensures { λ r. ⌜ Counts r (now (output .exit)) ⌝ }
     ensures { λ r. ⌜ Prints (now (job .entry)) (take r (now (output .exit))) ⌝ }
 {
-    match pack_writer::pack_bytes(h.shape) {
+    let z = h.sizes;
+    let bytes = z.bytes;
+    if bytes > LIMIT {
+        return printing::append(output, 0, b"too big\n");
+    }
+    match pack_writer::written_bytes(h) {
         PackSize::Refused(_) => 0,
         PackSize::Bytes(size) => {
             if size > LIMIT {
                 return printing::append(output, 0, b"too big\n");
             }
-            let z = h.sizes;
-            let bytes = z.bytes;
             writer::write_pack(job, &mut cube[..bytes], &mut output[..size]);
             size
         }
