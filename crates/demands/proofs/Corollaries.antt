@@ -7,18 +7,18 @@ use native.Mathlib.Decide.{ℕ-discrete}
 use native.Mathlib.Omega.{arith}
 use lib.ListN.{length, drop}
 use Rattle.answer.specs.Values.{Value, gives}
-use Rattle.shape.specs.declared.Shape.{Shape}
 use Rattle.shape.specs.Shapes.{cells}
 use Rattle.stopping.specs.Stopping.{number}
 use Rattle.stopping.proofs.Stopping.{stopping-size}
+use Rattle.pack.specs.declared.Header.{Header}
 use Rattle.pack.specs.Packs.{Packet}
 use Rattle.receiver.specs.declared.Counts.{Counts}
 use Rattle.receiver.specs.Gathering.{Reception, file}
 use Rattle.receiver.specs.Receive.{Memory}
 use Rattle.demands.specs.Demand3.{leftIn, Exact}
 
-pub few-lost : {sh : Shape} {contents x : List ℕ} {ps : List Packet} {L : ℕ → Bool} {m m′ : Memory} {value : Value Reception} {counts : Counts}
-    → Exact sh contents x ps L m m′ value counts → number L (cells sh) ≤ 26
+pub few-lost : {h : Header} {contents x : List ℕ} {ps : List Packet} {L : ℕ → Bool} {m m′ : Memory} {value : Value Reception} {counts : Counts}
+    → Exact h contents x ps L m m′ value counts → number L (cells (h .shape)) ≤ 26
     → (value ≡ gives (file (length contents))) × (m′ .buffer ≡ contents ++ drop (length contents) (m .buffer))
 few-lost {value} e few =
     e .file-back

@@ -10,13 +10,14 @@ use Rattle.field.specs.Field.{reduction}
 use Rattle.shape.specs.declared.Shape.{Shape}
 use Rattle.shape.specs.Shapes.{shapeChecked, lineOf}
 use Rattle.erasures.specs.Scan.{scanOf}
-use Rattle.data.specs.Calls.{ExtractOutcome, extract-refused, extract-done, ReadOutcome, read-refused, read-done, ZeroOutcome, zero-refused, zero-done}
-use Rattle.cube.specs.Calls.{EncodeOutcome, encode-refused, encode-done, CheckOutcome, check-refused, check-done}
+use Rattle.data.specs.Calls.{ExtractOutcome, extract-refused, extract-done, ReadOutcome, read-refused, read-done, WriteOutcome as WriteDataOutcome, SetOutcome, set-refused, set-done, ZeroOutcome, zero-refused, zero-done}
+use Rattle.cube.specs.Calls.{EncodeOutcome, encode-refused, encode-done, CompleteOutcome, complete-refused, complete-done, CheckOutcome, check-refused, check-done}
 use Rattle.fill.specs.Fill.{CellsLeft, FillOutcome, fill-refused, fill-done, fill-contradiction}
 use Rattle.mend.specs.Mend.{MendOutcome, mend-refused, mend-done, mend-uncorrected, AxisOutcome, axis-refused, axis-done}
-use Rattle.pack.specs.Reading.{headerOf, jobOf, airOf}
+use Rattle.pack.specs.declared.Header.{Header}
+use Rattle.pack.specs.Reading.{headerOf, sentChecked, jobOf, airOf, plainAirOf}
 use Rattle.cursor.specs.declared.Cursor.{Cursor}
-use Rattle.pack_writer.specs.Writing.{sizeChecked, airSizeChecked, StartOutcome, start-refused, started, AirOutcome, air-kept, air-written}
+use Rattle.pack_writer.specs.Writing.{sizeChecked, writtenChecked, airSizeChecked, StartOutcome, start-refused, started, AirOutcome, air-kept, air-written}
 use Rattle.writer.specs.Write.{WriteOutcome, write-refused, write-done}
 use Rattle.receiver.specs.declared.Counts.{Counts}
 use Rattle.receiver.specs.Gathering.{Reception, unfit, index, contradiction, some-left, none-left}
@@ -28,8 +29,8 @@ use Rattle.plan_form.specs.Form.{Plan, FormOutcome, formed, broken, planEnd, pl
 use Rattle.plan.specs.Calls.{WritePlanOutcome, write-inexact, write-broken, written, ReadPlanOutcome, read-broken, read-short, read-shown}
 use Rattle.plan.specs.Receiving.{noEntries, ReceivePlanOutcome, no-file, no-plan, no-room, shown}
 use Rattle.demands.specs.Ends.{isOneOf, OneOf, placed, keeping, Ends, in-result, in-refusal, in-place, Keeps, OnlyReads}
-use Rattle.demands.specs.Demand1.{shapeNumbers, cubeNumbers, fillNumbers, mendNumbers, headerNumbers, packNumbers, writerNumbers, receiverNumbers, airNumbers, startNumbers, writeTextNumbers, readTextNumbers, textPackNumbers, receivePlanNumbers, readPlanNumbers, writePlanNumbers, formNumbers, FillLeaves, MendLeaves, ReceiveLeaves, of-receiver, of-file, PlanLeaves, Demand1}
-use Rattle.demands.proofs.Numbers.{Plain, shape-number, size-number, line-number, scan-number, slices-number, cube-number, write-air-number, axis-number, read-number, fill-number, mend-number, header-number, job-number, air-number, write-number, receive-number, air-size-number, text-pack-number, start-number, read-text-number, text-size-number, write-text-number, one-of-more}
+use Rattle.demands.specs.Demand1.{shapeNumbers, cubeNumbers, fillNumbers, mendNumbers, headerNumbers, packNumbers, plainNumbers, writerNumbers, receiverNumbers, sentNumbers, writeAirNumbers, airNumbers, startNumbers, writeTextNumbers, readTextNumbers, textPackNumbers, receivePlanNumbers, readPlanNumbers, writePlanNumbers, formNumbers, FillLeaves, MendLeaves, ReceiveLeaves, of-receiver, of-file, PlanLeaves, Demand1}
+use Rattle.demands.proofs.Numbers.{Plain, shape-number, size-number, line-number, scan-number, slices-number, cube-number, write-air-number, axis-number, read-number, fill-number, mend-number, header-number, job-number, air-number, plain-air-number, sent-number, written-number, write-number, receive-number, air-size-number, text-pack-number, start-number, read-text-number, text-size-number, write-text-number, one-of-more}
 
 -- ---- numbers
 
@@ -59,6 +60,11 @@ encode-ends : (sh : Shape) (ds before after : List ℕ) (value : Value Unit) →
 encode-ends sh ds before after _ (encode-refused n e k) = refuses (slices-number n sh _ _ e) k
 encode-ends sh ds before after _ (encode-done e k) = in-result tt
 
+complete-ends : (sh : Shape) (before after : List ℕ) (value : Value Unit) → CompleteOutcome reduction sh before after value
+    → Ends cubeNumbers (Keeps before after) value
+complete-ends sh before after _ (complete-refused n e k) = refuses (cube-number n sh _ e) k
+complete-ends sh before after _ (complete-done e k) = in-result tt
+
 extract-ends : (sh : Shape) (xs before after : List ℕ) (value : Value Unit) → ExtractOutcome sh xs before after value
     → Ends cubeNumbers (Keeps before after) value
 extract-ends sh xs before after _ (extract-refused n e k) = refuses (slices-number n sh _ _ e) k
@@ -68,6 +74,16 @@ read-ends : (sh : Shape) (xs : List ℕ) (from to n : ℕ) (before after : List 
     → Ends cubeNumbers (Keeps before after) value
 read-ends sh xs from to n before after _ (read-refused m e k) = refuses (read-number m sh _ _ from to n e) k
 read-ends sh xs from to n before after _ (read-done e k) = in-result tt
+
+write-data-ends : (sh : Shape) (src : List ℕ) (from to n : ℕ) (before after : List ℕ) (value : Value Unit)
+    → WriteDataOutcome sh src from to n before after value → Ends cubeNumbers (Keeps before after) value
+write-data-ends sh src from to n before after _ (WriteDataOutcome.write-refused m e k) = refuses (read-number m sh _ _ to from n e) k
+write-data-ends sh src from to n before after _ (WriteDataOutcome.write-done e c k) = in-result tt
+
+set-data-ends : (sh : Shape) (from v : ℕ) (before after : List ℕ) (value : Value Unit) → SetOutcome sh from v before after value
+    → Ends cubeNumbers (Keeps before after) value
+set-data-ends sh from v before after _ (set-refused n e k) = refuses (cube-number n sh _ e) k
+set-data-ends sh from v before after _ (set-done e s k) = in-result tt
 
 zero-ends : (sh : Shape) (xs : List ℕ) (from : ℕ) (value : Value Bool) → ZeroOutcome sh xs from value → Ends cubeNumbers OnlyReads value
 zero-ends sh xs from _ (zero-refused n e) = refuses (cube-number n sh _ e) tt
@@ -88,7 +104,7 @@ unfolding OneOf isOneOf placed keeping fillNumbers
 fill-ends sh xs fs xs′ fs′ _ (fill-refused n e x y) =
     let k = fill-number n sh _ fs e in
     refuses k (record { kept = λ _. (x, y); contradiction = λ z. keeps-no n 13 (k .keeps) refl z })
-fill-ends sh xs fs xs′ fs′ _ (fill-done d s v k u) = in-result _
+fill-ends sh xs fs xs′ fs′ _ (fill-done d g k u) = in-result _
 fill-ends sh xs fs xs′ fs′ _ (fill-contradiction d K k none c e) =
     in-refusal 13 refl refl (record { kept = λ z. absurd (false≢true z); contradiction = λ _. (c, e) })
 
@@ -104,10 +120,10 @@ mend-ends sh xs fs before after _ (mend-uncorrected d ys p none k) =
 
 -- ---- packs
 
-air-ends : (sh : Shape) (xs before after : List ℕ) (value : Value Unit) → AirOutcome sh xs before after value
-    → Ends cubeNumbers (Keeps before after) value
-air-ends sh xs before after _ (air-kept n e k) = refuses (write-air-number n sh _ _ e) k
-air-ends sh xs before after _ (air-written e k) = in-result tt
+air-ends : (h : Header) (xs before after : List ℕ) (value : Value Unit) → AirOutcome h xs before after value
+    → Ends writeAirNumbers (Keeps before after) value
+air-ends h xs before after _ (air-kept n e k) = refuses (write-air-number n h _ _ e) k
+air-ends h xs before after _ (air-written e k) = in-result tt
 
 write-ends : (p xs out xs′ out′ : List ℕ) (value : Value Unit) → WriteOutcome reduction p xs out xs′ out′ value
     → Ends writerNumbers (λ n. Keeps xs xs′ n × Keeps out out′ n) value
@@ -188,7 +204,7 @@ pack-size-ends t _ (size-checked sh ks f x) =
 -- the receiver's numbers are the plan receiver's
 more-numbers : (n : ℕ) → OneOf receiverNumbers n → OneOf receivePlanNumbers n
 unfolding OneOf receiverNumbers receivePlanNumbers
-more-numbers n = one-of-more n (6 ∷ 7 ∷ 1 ∷ 2 ∷ 3 ∷ 10 ∷ 9 ∷ 8 ∷ 4 ∷ 11 ∷ 13 ∷ 14 ∷ []) (18 ∷ [])
+more-numbers n = one-of-more n (6 ∷ 7 ∷ 1 ∷ 2 ∷ 3 ∷ 10 ∷ 19 ∷ 9 ∷ 8 ∷ 4 ∷ 11 ∷ 13 ∷ 14 ∷ []) (18 ∷ [])
 
 module _ (p : List ℕ) (m m′ : Memory) (l : Lists) where
   passed-ends : (value : Value Reception) (counts : Counts) → ReceiveOutcome reduction p m m′ value counts
@@ -235,9 +251,12 @@ demand1 =
       read-header = λ p. checked-ends headerNumbers (headerOf p) (λ n. header-number n p);
       read-job = λ p. checked-ends packNumbers (jobOf p) (λ n. job-number n p);
       read-air = λ p. checked-ends packNumbers (airOf p) (λ n. air-number n p);
+      read-plain-air = λ p. checked-ends plainNumbers (plainAirOf p) (λ n. plain-air-number n p);
+      sent-cells = λ h. checked-ends sentNumbers (sentChecked h) (λ n. sent-number n h);
+      written-bytes = λ h. checked-ends sentNumbers (writtenChecked h) (λ n. written-number n h);
       write-text = write-text-ends;
       read-text = read-text-ends;
-      text-bytes = λ p. checked-ends packNumbers (textSizeChecked p) (λ n. text-size-number n p);
+      text-bytes = λ p. checked-ends plainNumbers (textSizeChecked p) (λ n. text-size-number n p);
       text-pack-bytes = pack-size-ends;
       receive-plan = receive-plan-ends;
       read-plan = read-plan-ends;
@@ -245,8 +264,11 @@ demand1 =
       measure-plan = λ f. form-ends (planIn f) (length f) (planIn f .counts);
       check-lists = λ l. form-ends (planOf l) (planEnd (countsOf l)) tt;
       encode = encode-ends;
+      complete = complete-ends;
       extract = extract-ends;
       read-data = read-ends;
+      write-data = write-data-ends;
+      set-data = set-data-ends;
       is-data-zero = zero-ends;
       is-code-cube = check-ends;
       fill = fill-ends;

@@ -58,9 +58,9 @@ fill-exactly : (sh : Shape) (xs fs xs′ fs′ : List ℕ) (value : Value CellsL
     → FillsOrRefuses sh xs fs K xs′ fs′ (value ≡ refused 13) (λ k. value ≡ gives (CellsLeft.left k))
 unfolding FillingOrContradiction
 fill-exactly sh xs fs xs′ fs′ _ done (fill-refused n e x g) K k = absurd (done-refused done e)
-fill-exactly sh xs fs xs′ fs′ _ done (fill-done d s v l u) K k =
+fill-exactly sh xs fs xs′ fs′ _ done (fill-done d g l u) K k =
     let same : (n : ℕ) → n < cells sh → missing fs′ n ≡ K n = largest-unique l k in
-    let (exactly, told) = filling-or-contradiction reduction primitive sh xs fs xs′ fs′ _ done (fill-done d s v l u) K k in
+    let (exactly, told) = filling-or-contradiction reduction primitive sh xs fs xs′ fs′ _ done (fill-done d g l u) K k in
     record {
       contradiction = exactly;
       given = λ _. filling-cong same u;

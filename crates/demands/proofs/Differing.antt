@@ -8,16 +8,18 @@ use native.Mathlib.Decide.{decLt}
 use native.Mathlib.Omega.{arith}
 use lib.ListN.{length, getD, length-map}
 use Rattle.shape.specs.declared.Shape.{Shape}
-use Rattle.shape.specs.Shapes.{cells}
+use Rattle.shape.specs.Shapes.{Valid, cells}
 use Rattle.stopping.proofs.Number.{true-or-false}
 use Rattle.pack.specs.declared.Section.{Section}
-use Rattle.pack.specs.Packs.{Packet, packetOf, everyPacket}
+use Rattle.pack.specs.Packs.{Packet, packetOf, sentPackets}
+use Rattle.pack.specs.Reading.{headerWith, headerFor}
 use Rattle.pack.specs.Packets.{packetNo, sourceOf}
-use Rattle.pack.proofs.Written.{packetOf-length, everyPacket-length, everyPacket-at}
+use Rattle.pack.proofs.Written.{packetOf-length}
 use Rattle.receiver.proofs.Copies.{among-earlier, earlier-among, differing-conflict}
-use Rattle.demands.specs.Demand3.{AllWritten, sent, inConflict, CountHolds, IsWritten, CopyOf, Heard, lost}
+use Rattle.demands.specs.Demand3.{heard, inConflict, CountHolds, IsWritten, CopyOf, Heard, missed}
 use Rattle.demands.specs.Wrong.{damaged}
 use Rattle.demands.proofs.Heard.{OfCell, none-differ, same-copy, copy-place}
+use Rattle.demands.proofs.Plain.{EveryCell, every-length, every-at}
 
 -- ---- damaged copies
 
@@ -32,7 +34,7 @@ first-differs : (bs : List ℕ) → 0 < length bs → getD (map (λ b. (b + 1) %
 first-differs [] some e = omega arith
 first-differs (b ∷ bs) some e = next-differs b e
 
-module _ (sh : Shape) (x : List ℕ) (size : length x ≡ sh .w * cells sh) (some : 0 < sh .w) where
+module _ (sh : Shape) (v : Valid sh) (x : List ℕ) (size : length x ≡ sh .w * cells sh) (some : 0 < sh .w) where
   -- a packet of x and a damaged copy of it
   differ : (ps : List Packet) (n i j : ℕ) → n < cells sh → i < length ps → j < length ps → packetNo ps i ≡ packetOf sh x n
       → packetNo ps j ≡ damaged (packetOf sh x n) → inConflict sh ps n ≡ true
@@ -45,12 +47,12 @@ module _ (sh : Shape) (x : List ℕ) (size : length x ≡ sh .w * cells sh) (som
       (ap (λ (k : Packet). getD (k .bytes) 0 0) (sym other) ∙ same ∙ ap (λ (k : Packet). getD (k .bytes) 0 0) own))
 
   -- a list of packets of x, and of copies of cells whose copies differ
-  module _ (contents output : List ℕ) (s : Section) (all : AllWritten sh contents x output s) (ps : List Packet) (few : length ps < 4294967296) where
+  module _ (output : List ℕ) (s : Section) (all : EveryCell sh x output s) (ps : List Packet) (few : length ps < 4294967296) where
     mixed-heard :
         ((i : ℕ) → i < length ps →
         (n : ℕ) × (n < cells sh) × CopyOf (packetOf sh x n) (packetNo ps i) × ((packetNo ps i ≡ packetOf sh x n) ⊎ (inConflict sh ps n ≡ true))) →
-        Heard sh output s ps
-    unfolding CountHolds IsWritten
+        Heard (headerFor sh) output s ps
+    unfolding CountHolds IsWritten headerFor headerWith
     mixed-heard each =
         record {
           cell = λ i l.
@@ -69,15 +71,15 @@ module _ (sh : Shape) (x : List ℕ) (size : length x ≡ sh .w * cells sh) (som
 
   module _ (inside : 0 < cells sh) where
     unfoldable pub first : List Packet
-    first = damaged (packetOf sh x 0) ∷ everyPacket sh x
+    first = damaged (packetOf sh x 0) ∷ sentPackets (headerFor sh) x
 
     first-length : length first ≡ cells sh + 1
     unfolding first
-    first-length = ap suc (everyPacket-length sh x) ∙ omega arith
+    first-length = ap suc (every-length sh v x) ∙ omega arith
 
     first-later : (i : ℕ) → i < cells sh → packetNo first (suc i) ≡ packetOf sh x i
     unfolding first packetNo
-    first-later i l = everyPacket-at sh x i l
+    first-later i l = every-at sh v x i l
 
     first-copy : CopyOf (packetOf sh x 0) (packetNo first 0)
     unfolding first packetNo
@@ -87,8 +89,8 @@ module _ (sh : Shape) (x : List ℕ) (size : length x ≡ sh .w * cells sh) (som
     unfolding first packetNo
     first-conflict = differ first 0 1 0 inside (omega (arith, first-length)) (omega (arith, first-length)) (first-later 0 inside) refl
 
-    pub first-heard : (contents output : List ℕ) (s : Section) → AllWritten sh contents x output s → cells sh < 4294967295 → Heard sh output s first
-    first-heard contents output s all few = mixed-heard contents output s all first (omega (arith, first-length)) each
+    pub first-heard : (output : List ℕ) (s : Section) → EveryCell sh x output s → cells sh < 4294967295 → Heard (headerFor sh) output s first
+    first-heard output s all few = mixed-heard output s all first (omega (arith, first-length)) each
       where
         each :
             (i : ℕ) → i < length first →
@@ -99,16 +101,16 @@ module _ (sh : Shape) (x : List ℕ) (size : length x ≡ sh .w * cells sh) (som
             let less : i < cells sh = omega (arith, first-length) in
             (i, less, same-copy (first-later i less), inl (first-later i less))
 
-    -- only the first cell is lost
-    pub first-lost : (n : ℕ) → n < cells sh → lost sh first n ≡ true → n < 1
-    unfolding lost sent
-    first-lost n l e =
+    -- only the first cell is missed
+    pub first-missed : (n : ℕ) → n < cells sh → missed sh first n ≡ true → n < 1
+    unfolding missed heard
+    first-missed n l e =
         elim (decLt n 1) [
           | yes less ↦ less
           | no more ↦
               let place : sourceOf sh first .place (suc n) ≡ n = copy-place sh x first (suc n) n (same-copy (first-later n l)) in
-              let came : sent sh first n ≡ true =
-              ap (sent sh first) (sym place) ∙ earlier-among (sourceOf sh first) _ (suc n) (omega (arith, first-length)) in
+              let came : heard sh first n ≡ true =
+              ap (heard sh first) (sym place) ∙ earlier-among (sourceOf sh first) _ (suc n) (omega (arith, first-length)) in
               let none : inConflict sh first n ≡ false = none-differ sh x first n (own more) in
               absurd (false≢true (rw (came, none) at e))
         ]
@@ -136,18 +138,18 @@ module _ (sh : Shape) (x : List ℕ) (size : length x ≡ sh .w * cells sh) (som
     thrice-copy (suc (suc zero)) l = same-copy refl
     thrice-copy (suc (suc (suc i))) l = absurd (omega arith)
 
-    pub thrice-heard : (contents output : List ℕ) (s : Section) → AllWritten sh contents x output s → Heard sh output s thrice
+    pub thrice-heard : (output : List ℕ) (s : Section) → EveryCell sh x output s → Heard (headerFor sh) output s thrice
     unfolding thrice
-    thrice-heard contents output s all =
-        mixed-heard contents output s all thrice (omega arith) (λ i l. (n, inside, thrice-copy i l, inr thrice-conflict))
+    thrice-heard output s all =
+        mixed-heard output s all thrice (omega arith) (λ i l. (n, inside, thrice-copy i l, inr thrice-conflict))
 
-    -- every cell is lost
-    pub thrice-lost : (m : ℕ) → lost sh thrice m ≡ true
-    unfolding lost sent
-    thrice-lost m =
+    -- every cell is missed
+    pub thrice-missed : (m : ℕ) → missed sh thrice m ≡ true
+    unfolding missed heard
+    thrice-missed m =
         ⊎-elim
-        (λ (came : sent sh thrice m ≡ true).
+        (λ (came : heard sh thrice m ≡ true).
         let (i, l, p) = among-earlier (sourceOf sh thrice) (length thrice) m came in
         let same : m ≡ n = sym p ∙ copy-place sh x thrice i n (thrice-copy i l) in
         rw came (ap (inConflict sh thrice) same ∙ thrice-conflict))
-        (λ (none : sent sh thrice m ≡ false). rw none) (true-or-false (sent sh thrice m))
+        (λ (none : heard sh thrice m ≡ false). rw none) (true-or-false (heard sh thrice m))

@@ -12,10 +12,10 @@ use Rattle.shape.specs.declared.Shape.{Shape}
 use Rattle.shape.specs.Shapes.{Valid, cells}
 use Rattle.shape.proofs.Geometry.{cell-coordinates, third-lt}
 use Rattle.data.specs.Data.{layer}
+use Rattle.pack.specs.declared.Header.{Header}
 use Rattle.pack.specs.declared.Section.{Section}
-use Rattle.pack.specs.Packs.{Packet, airPack, packetOf}
+use Rattle.pack.specs.Packs.{Packet, unsent, sends, airPack, packetOf}
 use Rattle.pack.specs.Packets.{packetNo, source, sourceOf, InRange}
-use Rattle.pack.specs.Reading.{headerFor}
 use Rattle.pack.proofs.Written.{Sized, Carries, carries-place, packetOf-length}
 use Rattle.receiver.specs.Placing.{agreed}
 use Rattle.receiver.proofs.Copies.{equal-conflict}
@@ -77,24 +77,25 @@ module _ (sh : Shape) (x : List ℕ) (ps : List Packet) (size : length x ≡ sh 
     pub named-lt : sourceOf sh ps .place i < cells sh
     named-lt = let (n, h, copy) = each .cell i l in rw (copy-place sh x ps i n copy) h
 
-  -- as the receiver reads them
-  module _ (c : Section) (carries : Carries (airPack sh ps) (headerFor sh) c ps) (i : ℕ) (l : i < length ps) where
-    pub heard-place : source (airPack sh ps) (headerFor sh) c .place i ≡ sourceOf sh ps .place i
-    unfolding headerFor
-    heard-place = carries-place (airPack sh ps) (headerFor sh) c ps carries i l
+-- as the receiver reads them
+module _ (h : Header) (x : List ℕ) (ps : List Packet) (each : Copies (h .shape) x ps) (c : Section) (carries : Carries (airPack h ps) h c ps) (i : ℕ)
+    (l : i < length ps) where
+  pub heard-place : source (airPack h ps) h c .place i ≡ sourceOf (h .shape) ps .place i
+  heard-place = carries-place (airPack h ps) h c ps carries i l
 
-    pub heard-byte : (w : ℕ) → w < sh .w → source (airPack sh ps) (headerFor sh) c .byte i w ≡ sourceOf sh ps .byte i w
-    unfolding headerFor
-    heard-byte w b = carries .byte i w l b
+  pub heard-byte : (w : ℕ) → w < h .shape .w → source (airPack h ps) h c .byte i w ≡ sourceOf (h .shape) ps .byte i w
+  heard-byte w b = carries .byte i w l b
 
-    pub heard-range : Valid sh → InRange (airPack sh ps) (headerFor sh) c i
-    unfolding headerFor packetOf
-    heard-range v =
-        let (n, h, copy) = each .cell i l in
-        let one : 0 < sh .l1 = omega (arith, v .l1-low) in
-        let two : 0 < sh .l2 = omega (arith, v .l2-low) in
-        record {
-          first = rw (carries .first i l, copy .first) (mod-lt _ one);
-          second = rw (carries .second i l, copy .second) (mod-lt _ two);
-          third = rw (carries .third i l, copy .third) (third-lt sh _ (mul-pos one two) h);
-        }
+  pub heard-range : Valid (h .shape) → unsent h (sourceOf (h .shape) ps .place i) ≡ false → InRange (airPack h ps) h c i
+  unfolding packetOf sends
+  heard-range v sent =
+      let sh = h .shape in
+      let (n, less, copy) = each .cell i l in
+      let one : 0 < sh .l1 = omega (arith, v .l1-low) in
+      let two : 0 < sh .l2 = omega (arith, v .l2-low) in
+      record {
+        first = rw (carries .first i l, copy .first) (mod-lt _ one);
+        second = rw (carries .second i l, copy .second) (mod-lt _ two);
+        third = rw (carries .third i l, copy .third) (third-lt sh _ (mul-pos one two) less);
+        sent = rw (heard-place, sent);
+      }

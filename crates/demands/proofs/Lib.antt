@@ -10,6 +10,8 @@ mod Sent
 -- Heard: a list of packets as the receiver reads them.
 mod Heard
 pub mod Demand3
+-- Plain: count 5, with nothing unsent.
+pub mod Plain
 -- Plans: a plan written, packed and heard.
 pub mod Plans
 -- Corollaries: few lost cells come back.

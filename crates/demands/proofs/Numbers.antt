@@ -17,13 +17,14 @@ use Rattle.data.specs.Calls.{slicesChecked, cubeChecked, readChecked}
 use Rattle.fill.specs.Fill.{flagsChecked}
 use Rattle.mend.specs.Mend.{axisChecked, mendChecked, wholeChecked}
 use Rattle.pack.specs.Packs.{airSize, packSize}
-use Rattle.pack.specs.Reading.{headerOf, jobOf, airOf}
-use Rattle.pack.proofs.Numbers.{shape-fails, header-fails, job-fails, air-fails}
-use Rattle.pack_writer.specs.Writing.{sizeChecked, airSizeChecked, startChecked, airChecked}
+use Rattle.pack.specs.declared.Header.{Header}
+use Rattle.pack.specs.Reading.{headerFor, headerOf, sentChecked, jobOf, airOf, plainAirOf}
+use Rattle.pack.proofs.Numbers.{shape-fails, header-fails, sent-fails, job-fails, air-fails, plain-air-fails}
+use Rattle.pack_writer.specs.Writing.{sizeChecked, writtenChecked, airSizeChecked, startChecked, airChecked}
 use Rattle.writer.specs.Write.{writeChecked}
 use Rattle.receiver.specs.Receive.{Memory, receiveChecked}
 use Rattle.text.specs.Text.{textIn, textSizeChecked, writeTextChecked}
-use Rattle.demands.specs.Demand1.{shapeNumbers, cubeNumbers, fillNumbers, mendNumbers, headerNumbers, packNumbers, writerNumbers, receiverNumbers, airNumbers, startNumbers, writeTextNumbers, readTextNumbers, textPackNumbers}
+use Rattle.demands.specs.Demand1.{shapeNumbers, cubeNumbers, fillNumbers, mendNumbers, headerNumbers, packNumbers, plainNumbers, writerNumbers, receiverNumbers, sentNumbers, writeAirNumbers, airNumbers, startNumbers, writeTextNumbers, readTextNumbers, textPackNumbers}
 use Rattle.demands.specs.Demand2.{earlyNumbers}
 use Rattle.demands.specs.Ends.{isOneOf, OneOf, placed, keeping}
 
@@ -66,7 +67,7 @@ module _ (n : ℕ) where
 
   pub size-number : (sh : Shape) → sizeChecked sh ≡ fails n → Plain shapeNumbers n
   unfolding sizeChecked
-  size-number sh = then-number (Plain shapeNumbers) n _ _ (shape-number sh) (λ z. passes-number (Plain shapeNumbers) n (packSize sh))
+  size-number sh = then-number (Plain shapeNumbers) n _ _ (shape-number sh) (λ z. passes-number (Plain shapeNumbers) n (packSize (headerFor sh)))
 
   -- 1 of the axis or the line, and the numbers of the shape
   line-fails : (P : ℕ → Type 0) → P 1 → P 2 → P 3 → (sh : Shape) (axis m : ℕ) → lineOf sh axis m ≡ fails n → P n
@@ -103,10 +104,6 @@ module _ (n : ℕ) where
   unfolding cubeChecked
   cube-number sh c = slices-fail _ sh
 
-  pub write-air-number : (sh : Shape) (c d : ℕ) → airChecked sh c d ≡ fails n → Plain cubeNumbers n
-  unfolding airChecked
-  write-air-number sh c d = slices-fail _ sh
-
   pub axis-number : (sh : Shape) (axis c : ℕ) → axisChecked sh axis c ≡ fails n → Plain cubeNumbers n
   unfolding axisChecked isPlain isOneOf placed keeping both cubeNumbers
   axis-number sh axis c = check-number (Plain cubeNumbers) n _ 1 _ (plain cubeNumbers 1 refl) (cube-number sh c)
@@ -139,44 +136,66 @@ module _ (n : ℕ) where
 
   pub header-number : (p : List ℕ) → headerOf p ≡ fails n → Plain headerNumbers n
   unfolding isPlain isOneOf placed keeping both headerNumbers
-  header-number p e = plain headerNumbers n (header-fails (Test headerNumbers) n refl refl refl refl refl refl p e)
+  header-number p e = plain headerNumbers n (header-fails (Test headerNumbers) n refl refl refl refl refl refl refl p e)
 
   pub job-number : (p : List ℕ) → jobOf p ≡ fails n → Plain packNumbers n
   unfolding isPlain isOneOf placed keeping both packNumbers
-  job-number p e = plain packNumbers n (job-fails (Test packNumbers) n refl refl refl refl refl refl p refl refl e)
+  job-number p e = plain packNumbers n (job-fails (Test packNumbers) n refl refl refl refl refl refl refl p refl refl e)
 
   pub air-number : (p : List ℕ) → airOf p ≡ fails n → Plain packNumbers n
   unfolding isPlain isOneOf placed keeping both packNumbers
-  air-number p e = plain packNumbers n (air-fails (Test packNumbers) n refl refl refl refl refl refl p refl refl e)
+  air-number p e = plain packNumbers n (air-fails (Test packNumbers) n refl refl refl refl refl refl refl p refl refl e)
+
+  -- those of a reader that keeps to count 5
+  pub plain-air-number : (p : List ℕ) → plainAirOf p ≡ fails n → Plain plainNumbers n
+  unfolding isPlain isOneOf placed keeping both plainNumbers
+  plain-air-number p e = plain plainNumbers n (plain-air-fails (Test plainNumbers) n refl refl refl refl refl refl p refl refl e)
+
+  -- those of a header, and then 4
+  pub sent-number : (h : Header) → sentChecked h ≡ fails n → Plain sentNumbers n
+  unfolding isPlain isOneOf placed keeping both sentNumbers
+  sent-number h e = plain sentNumbers n (sent-fails (Test sentNumbers) n refl refl refl refl refl h e)
+
+  pub written-number : (h : Header) → writtenChecked h ≡ fails n → Plain sentNumbers n
+  unfolding writtenChecked
+  written-number h = then-number (Plain sentNumbers) n _ _ (sent-number h) (λ k. passes-number (Plain sentNumbers) n (airSize h k))
+
+  pub write-air-number : (h : Header) (c d : ℕ) → airChecked h c d ≡ fails n → Plain writeAirNumbers n
+  unfolding airChecked writtenChecked isPlain isOneOf placed keeping both writeAirNumbers
+  write-air-number h c d e =
+      let P = Test writeAirNumbers in
+      plain writeAirNumbers n
+      (then-number P n _ _ (then-number P n _ _ (sent-fails P n refl refl refl refl refl h) (λ k. passes-number P n (airSize h k)))
+      (λ size. check-number P n _ 4 _ refl (passes-number P n tt)) e)
 
   pub write-number : (p : List ℕ) (c d : ℕ) → writeChecked p c d ≡ fails n → Plain writerNumbers n
   unfolding writeChecked isPlain isOneOf placed keeping both writerNumbers
   write-number p c d e =
       let P = Test writerNumbers in
       plain writerNumbers n
-      (then-number P n _ _ (job-fails P n refl refl refl refl refl refl p refl refl)
+      (then-number P n _ _ (job-fails P n refl refl refl refl refl refl refl p refl refl)
       (λ j. check-number P n _ 4 _ refl (passes-number P n j)) e)
 
-  receive-fails : (P : ℕ → Type 0) → P 6 → P 7 → P 1 → P 2 → P 3 → P 10 → P 9 → P 8 → P 4 → (p : List ℕ) (m : Memory) → receiveChecked p m ≡ fails n
-      → P n
+  receive-fails : (P : ℕ → Type 0) → P 6 → P 7 → P 1 → P 2 → P 3 → P 10 → P 19 → P 9 → P 8 → P 4 → (p : List ℕ) (m : Memory)
+      → receiveChecked p m ≡ fails n → P n
   unfolding receiveChecked
-  receive-fails P six seven one two three ten nine eight four p m =
-      then-number P n _ _ (air-fails P n six seven one two three ten p nine eight) (λ a. check-number P n _ 4 _ four (passes-number P n a))
+  receive-fails P six seven one two three ten nineteen nine eight four p m =
+      then-number P n _ _ (air-fails P n six seven one two three ten nineteen p nine eight) (λ a. check-number P n _ 4 _ four (passes-number P n a))
 
   pub receive-number : (p : List ℕ) (m : Memory) → receiveChecked p m ≡ fails n → Plain receiverNumbers n
   unfolding isPlain isOneOf placed keeping both receiverNumbers
-  receive-number p m e = plain receiverNumbers n (receive-fails (Test receiverNumbers) refl refl refl refl refl refl refl refl refl p m e)
+  receive-number p m e = plain receiverNumbers n (receive-fails (Test receiverNumbers) refl refl refl refl refl refl refl refl refl refl p m e)
 
   pub early-number : (p : List ℕ) (m : Memory) → receiveChecked p m ≡ fails n → OneOf earlyNumbers n
   unfolding OneOf isOneOf earlyNumbers
-  early-number = receive-fails (λ k. isOneOf earlyNumbers k ≡ true) refl refl refl refl refl refl refl refl refl
+  early-number = receive-fails (λ k. isOneOf earlyNumbers k ≡ true) refl refl refl refl refl refl refl refl refl refl
 
   -- ---- texts
 
   air-size-fails : (P : ℕ → Type 0) → P 1 → P 2 → P 3 → P 10 → (sh : Shape) (k : ℕ) → airSizeChecked sh k ≡ fails n → P n
   unfolding airSizeChecked
   air-size-fails P one two three ten sh k =
-      then-number P n _ _ (shape-fails P n one two three sh) (λ z. check-number P n _ 10 _ ten (passes-number P n (airSize sh k)))
+      then-number P n _ _ (shape-fails P n one two three sh) (λ z. check-number P n _ 10 _ ten (passes-number P n (airSize (headerFor sh) k)))
 
   pub air-size-number : (sh : Shape) (k : ℕ) → airSizeChecked sh k ≡ fails n → Plain airNumbers n
   unfolding isPlain isOneOf placed keeping both airNumbers
@@ -200,14 +219,15 @@ module _ (n : ℕ) where
   unfolding isPlain isOneOf placed keeping both readTextNumbers
   read-text-number sh k d e = plain readTextNumbers n (start-fails (Test readTextNumbers) refl refl refl refl refl sh k d e)
 
-  pub text-size-number : (p : List ℕ) → textSizeChecked p ≡ fails n → Plain packNumbers n
+  pub text-size-number : (p : List ℕ) → textSizeChecked p ≡ fails n → Plain plainNumbers n
   unfolding textSizeChecked
-  text-size-number p = then-number (Plain packNumbers) n _ _ (air-number p) (λ a. passes-number (Plain packNumbers) n (length (textIn p a)))
+  text-size-number p =
+      then-number (Plain plainNumbers) n _ _ (plain-air-number p) (λ a. passes-number (Plain plainNumbers) n (length (textIn p a)))
 
   pub write-text-number : (p : List ℕ) (d : ℕ) → writeTextChecked p d ≡ fails n → Plain writeTextNumbers n
   unfolding writeTextChecked isPlain isOneOf placed keeping both writeTextNumbers
   write-text-number p d e =
       let P = Test writeTextNumbers in
       plain writeTextNumbers n
-      (then-number P n _ _ (air-fails P n refl refl refl refl refl refl p refl refl)
+      (then-number P n _ _ (plain-air-fails P n refl refl refl refl refl refl p refl refl)
       (λ a. check-number P n _ 4 _ refl (passes-number P n a)) e)

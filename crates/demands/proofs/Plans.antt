@@ -8,7 +8,7 @@ use lib.Seq.{take-append-seam}
 use Rattle.answer.specs.Values.{Value, gives}
 use Rattle.answer.proofs.Values.{gives-injective}
 use Rattle.field.specs.Field.{reduction}
-use Rattle.shape.specs.declared.Shape.{Shape}
+use Rattle.pack.specs.declared.Header.{Header}
 use Rattle.pack.specs.Packs.{Packet, airPack}
 use Rattle.receiver.specs.declared.Counts.{Counts}
 use Rattle.receiver.specs.Gathering.{Reception, file}
@@ -25,16 +25,16 @@ use Rattle.demands.specs.Demand3.{lost, OnlyEmpty, leftIn, Exact, Demand
 use Rattle.demands.specs.Plans.{PlanBack, PlanKept, PlanDemand}
 use Rattle.demands.proofs.Demand3.{demand3}
 
-abbrev Claim : Shape → List Packet → Lists → ℕ → Lists → Lists → Value Reception → PlanCounts → Type 0
-Claim sh ps l size lent lent′ value entries =
-    (OnlyEmpty sh (lost sh ps) → PlanBack l lent lent′ size value entries)
-    × ((OnlyEmpty sh (lost sh ps) → ⊥) → PlanKept lent lent′ value entries)
+abbrev Claim : Header → List Packet → Lists → ℕ → Lists → Lists → Value Reception → PlanCounts → Type 0
+Claim h ps l size lent lent′ value entries =
+    (OnlyEmpty (h .shape) (lost h ps) → PlanBack l lent lent′ size value entries)
+    × ((OnlyEmpty (h .shape) (lost h ps) → ⊥) → PlanKept lent lent′ value entries)
 
-module _ (l : Lists) (before f : List ℕ) (small : ListBytes l) (plan : WritePlanOutcome l before f (gives tt)) {sh : Shape} {x : List ℕ} {ps : List Packet}
+module _ (l : Lists) (before f : List ℕ) (small : ListBytes l) (plan : WritePlanOutcome l before f (gives tt)) {h : Header} {x : List ℕ} {ps : List Packet}
     {m m′ : Memory} where
   -- ---- where the receiver has a file
 
-  module _ (n : ℕ) (k : Counts) (e : Exact sh f x ps (lost sh ps) m m′ (gives (file n)) k) where
+  module _ (n : ℕ) (k : Counts) (e : Exact h f x ps (lost h ps) m m′ (gives (file n)) k) where
     file-same : (n ≡ length f) × (take n (m′ .buffer) ≡ f)
     unfolding leftIn
     file-same =
@@ -42,7 +42,7 @@ module _ (l : Lists) (before f : List ℕ) (small : ListBytes l) (plan : WritePl
         let size : n ≡ length f = cc in
         (size, rw (size, begins) (take-append-seam f (drop (length f) (m .buffer))))
 
-    nothing-lost : OnlyEmpty sh (lost sh ps)
+    nothing-lost : OnlyEmpty (h .shape) (lost h ps)
     unfolding leftIn
     nothing-lost = e .none-exactly .0 refl
 
@@ -54,8 +54,8 @@ module _ (l : Lists) (before f : List ℕ) (small : ListBytes l) (plan : WritePl
   -- ---- each outcome
 
   heard : {lent lent′ : Lists} {value : Value Reception} {counts : Counts} {entries : PlanCounts}
-      → ((v : Value Reception) (k : Counts) → ReceiveOutcome reduction (airPack sh ps) m m′ v k → Exact sh f x ps (lost sh ps) m m′ v k)
-      → Room l lent → ReceivePlanOutcome reduction (airPack sh ps) m m′ lent lent′ value counts entries → Claim sh ps l (length f) lent lent′ value entries
+      → ((v : Value Reception) (k : Counts) → ReceiveOutcome reduction (airPack h ps) m m′ v k → Exact h f x ps (lost h ps) m m′ v k)
+      → Room l lent → ReceivePlanOutcome reduction (airPack h ps) m m′ lent lent′ value counts entries → Claim h ps l (length f) lent lent′ value entries
   heard exact room (no-file v k o none kept) =
       let e = exact v k o in (
         λ empty. absurd (none (length f) (e .file-back (e .none-exactly .1 empty) .0)),
@@ -74,8 +74,8 @@ module _ (l : Lists) (before f : List ℕ) (small : ListBytes l) (plan : WritePl
 
 pub plan-demand : PlanDemand
 unfolding PlanDemand Demand3 Demanded
-plan-demand l before f small plan p sh x output wrote =
-    let (s, all, claim) = demand3 p sh f x output wrote in (
+plan-demand l before f small plan p h x output wrote =
+    let (s, all, claim) = demand3 p h f x output wrote in (
       s,
       all,
       λ ps m m′ lent lent′ value counts entries sent sizes room o.

@@ -15,15 +15,15 @@ use Rattle.shape.specs.Shapes.{shapeChecked, lineOf}
 use Rattle.shape.specs.Flags.{missing}
 use Rattle.erasures.specs.declared.ScanCounts.{ScanCounts}
 use Rattle.erasures.specs.Scan.{scanOf}
-use Rattle.data.specs.Calls.{ExtractOutcome, ReadOutcome, ZeroOutcome}
-use Rattle.cube.specs.Calls.{EncodeOutcome, CheckOutcome}
+use Rattle.data.specs.Calls.{ExtractOutcome, ReadOutcome, WriteOutcome as WriteDataOutcome, SetOutcome, ZeroOutcome}
+use Rattle.cube.specs.Calls.{EncodeOutcome, CompleteOutcome, CheckOutcome}
 use Rattle.fill.specs.Fill.{CellsLeft, Cleared, FillOutcome}
 use Rattle.mend.specs.Mend.{MendOutcome, AxisOutcome}
 use Rattle.cursor.specs.declared.Cursor.{Cursor}
 use Rattle.pack.specs.declared.Header.{Header}
 use Rattle.pack.specs.declared.Section.{Section}
-use Rattle.pack.specs.Reading.{headerOf, jobOf, airOf}
-use Rattle.pack_writer.specs.Writing.{sizeChecked, airSizeChecked, StartOutcome, AirOutcome}
+use Rattle.pack.specs.Reading.{headerOf, sentChecked, jobOf, airOf, plainAirOf}
+use Rattle.pack_writer.specs.Writing.{sizeChecked, writtenChecked, airSizeChecked, StartOutcome, AirOutcome}
 use Rattle.writer.specs.Write.{WriteOutcome}
 use Rattle.receiver.specs.declared.Counts.{Counts}
 use Rattle.receiver.specs.Gathering.{Reception, file, noCounts}
@@ -79,20 +79,27 @@ fillNumbers = 1 ∷ 2 ∷ 3 ∷ 4 ∷ 5 ∷ 13 ∷ []
 unfoldable pub mendNumbers : List ℕ
 mendNumbers = 1 ∷ 2 ∷ 3 ∷ 4 ∷ 5 ∷ 15 ∷ 16 ∷ []
 
--- of a reader of section 1
+-- of a reader of section 1; request P5: "19, … after the capacity check of 10"
 unfoldable pub headerNumbers : List ℕ
-headerNumbers = 6 ∷ 7 ∷ 1 ∷ 2 ∷ 3 ∷ 10 ∷ []
+headerNumbers = 6 ∷ 7 ∷ 1 ∷ 2 ∷ 3 ∷ 10 ∷ 19 ∷ []
 
 -- of a reader of the whole pack
 unfoldable pub packNumbers : List ℕ
-packNumbers = 6 ∷ 7 ∷ 1 ∷ 2 ∷ 3 ∷ 10 ∷ 9 ∷ 8 ∷ []
+packNumbers = 6 ∷ 7 ∷ 1 ∷ 2 ∷ 3 ∷ 10 ∷ 19 ∷ 9 ∷ 8 ∷ []
 
 unfoldable pub writerNumbers : List ℕ
-writerNumbers = 6 ∷ 7 ∷ 1 ∷ 2 ∷ 3 ∷ 10 ∷ 9 ∷ 8 ∷ 4 ∷ []
+writerNumbers = 6 ∷ 7 ∷ 1 ∷ 2 ∷ 3 ∷ 10 ∷ 19 ∷ 9 ∷ 8 ∷ 4 ∷ []
 
 -- request P3: "Number 12 no longer occurs."
 unfoldable pub receiverNumbers : List ℕ
-receiverNumbers = 6 ∷ 7 ∷ 1 ∷ 2 ∷ 3 ∷ 10 ∷ 9 ∷ 8 ∷ 4 ∷ 11 ∷ 13 ∷ 14 ∷ []
+receiverNumbers = 6 ∷ 7 ∷ 1 ∷ 2 ∷ 3 ∷ 10 ∷ 19 ∷ 9 ∷ 8 ∷ 4 ∷ 11 ∷ 13 ∷ 14 ∷ []
+
+-- of a call that takes a header, and of one that is lent a cube and a pack besides
+unfoldable pub sentNumbers : List ℕ
+sentNumbers = 7 ∷ 1 ∷ 2 ∷ 3 ∷ 19 ∷ []
+
+unfoldable pub writeAirNumbers : List ℕ
+writeAirNumbers = 7 ∷ 1 ∷ 2 ∷ 3 ∷ 19 ∷ 4 ∷ []
 
 -- of a call that takes a shape and counts the packets of an air pack, and of one that is lent that pack
 unfoldable pub airNumbers : List ℕ
@@ -100,6 +107,10 @@ airNumbers = 1 ∷ 2 ∷ 3 ∷ 10 ∷ []
 
 unfoldable pub startNumbers : List ℕ
 startNumbers = 1 ∷ 2 ∷ 3 ∷ 10 ∷ 4 ∷ []
+
+-- of a reader that keeps to count 5, which leaves nothing unsent
+unfoldable pub plainNumbers : List ℕ
+plainNumbers = 6 ∷ 7 ∷ 1 ∷ 2 ∷ 3 ∷ 10 ∷ 9 ∷ 8 ∷ []
 
 -- request P1, the text of a pack and the pack of a text: "17 …, checked before 1; the text reader then checks 1, 2, 3, 10, 4 and 11"
 unfoldable pub writeTextNumbers : List ℕ
@@ -113,7 +124,7 @@ textPackNumbers = 17 ∷ 1 ∷ 2 ∷ 3 ∷ 10 ∷ []
 
 -- request P4: "18, …, after 14; then 4, a lent list too short"; the writer: "4 before its 18"
 unfoldable pub receivePlanNumbers : List ℕ
-receivePlanNumbers = 6 ∷ 7 ∷ 1 ∷ 2 ∷ 3 ∷ 10 ∷ 9 ∷ 8 ∷ 4 ∷ 11 ∷ 13 ∷ 14 ∷ 18 ∷ []
+receivePlanNumbers = 6 ∷ 7 ∷ 1 ∷ 2 ∷ 3 ∷ 10 ∷ 19 ∷ 9 ∷ 8 ∷ 4 ∷ 11 ∷ 13 ∷ 14 ∷ 18 ∷ []
 
 unfoldable pub readPlanNumbers : List ℕ
 readPlanNumbers = 18 ∷ 4 ∷ []
@@ -156,6 +167,13 @@ pub record Demand1 : Type 0 where
       (p : List ℕ) (value : Value (Header × Section)) → value ≡ checked (jobOf p) → Ends packNumbers OnlyReads value
   pub read-air :
       (p : List ℕ) (value : Value (Header × Section)) → value ≡ checked (airOf p) → Ends packNumbers OnlyReads value
+  -- request P5: an air pack as the text twin reads it, and what a header sends
+  pub read-plain-air :
+      (p : List ℕ) (value : Value (Header × Section)) → value ≡ checked (plainAirOf p) → Ends plainNumbers OnlyReads value
+  pub sent-cells :
+      (h : Header) (value : Value ℕ) → value ≡ checked (sentChecked h) → Ends sentNumbers OnlyReads value
+  pub written-bytes :
+      (h : Header) (value : Value ℕ) → value ≡ checked (writtenChecked h) → Ends sentNumbers OnlyReads value
   -- request P1: a pack and its text
   pub write-text :
       (p before after : List ℕ) (value : Value Unit) → WriteTextOutcome p before after value →
@@ -164,7 +182,7 @@ pub record Demand1 : Type 0 where
       (t before after : List ℕ) (value : Value Unit) → ReadTextOutcome t before after value →
       Ends readTextNumbers (Keeps before after) value
   pub text-bytes :
-      (p : List ℕ) (value : Value ℕ) → value ≡ checked (textSizeChecked p) → Ends packNumbers OnlyReads value
+      (p : List ℕ) (value : Value ℕ) → value ≡ checked (textSizeChecked p) → Ends plainNumbers OnlyReads value
   pub text-pack-bytes :
       (t : List ℕ) (value : Value ℕ) → PackSizeOutcome t value → Ends textPackNumbers OnlyReads value
   -- request P4: a plan received, read, measured and written
@@ -187,11 +205,20 @@ pub record Demand1 : Type 0 where
   pub encode :
       (sh : Shape) (ds before after : List ℕ) (value : Value Unit) → EncodeOutcome reduction sh ds before after value →
       Ends cubeNumbers (Keeps before after) value
+  pub complete :
+      (sh : Shape) (before after : List ℕ) (value : Value Unit) → CompleteOutcome reduction sh before after value →
+      Ends cubeNumbers (Keeps before after) value
   pub extract :
       (sh : Shape) (xs before after : List ℕ) (value : Value Unit) → ExtractOutcome sh xs before after value →
       Ends cubeNumbers (Keeps before after) value
   pub read-data :
       (sh : Shape) (xs : List ℕ) (from to n : ℕ) (before after : List ℕ) (value : Value Unit) → ReadOutcome sh xs from to n before after value →
+      Ends cubeNumbers (Keeps before after) value
+  pub write-data :
+      (sh : Shape) (src : List ℕ) (from to n : ℕ) (before after : List ℕ) (value : Value Unit) →
+      WriteDataOutcome sh src from to n before after value → Ends cubeNumbers (Keeps before after) value
+  pub set-data :
+      (sh : Shape) (from v : ℕ) (before after : List ℕ) (value : Value Unit) → SetOutcome sh from v before after value →
       Ends cubeNumbers (Keeps before after) value
   pub is-data-zero :
       (sh : Shape) (xs : List ℕ) (from : ℕ) (value : Value Bool) → ZeroOutcome sh xs from value → Ends cubeNumbers OnlyReads value
@@ -207,8 +234,8 @@ pub record Demand1 : Type 0 where
       (sh : Shape) (axis : ℕ) (before after : List ℕ) (value : Value Unit) → AxisOutcome reduction sh axis before after value →
       Ends cubeNumbers (Keeps before after) value
   pub write-air :
-      (sh : Shape) (xs before after : List ℕ) (value : Value Unit) → AirOutcome sh xs before after value →
-      Ends cubeNumbers (Keeps before after) value
+      (h : Header) (xs before after : List ℕ) (value : Value Unit) → AirOutcome h xs before after value →
+      Ends writeAirNumbers (Keeps before after) value
   pub start-air :
       (sh : Shape) (n : ℕ) (before after : List ℕ) (value : Value Cursor) → StartOutcome sh n before after value →
       Ends startNumbers (Keeps before after) value

@@ -43,7 +43,7 @@ TellsLeft value k =
 
 -- what the receiver can refuse a pack with before filling, in the table's order
 unfoldable pub earlyNumbers : List ℕ
-earlyNumbers = 6 ∷ 7 ∷ 1 ∷ 2 ∷ 3 ∷ 10 ∷ 9 ∷ 8 ∷ 4 ∷ 11 ∷ []
+earlyNumbers = 6 ∷ 7 ∷ 1 ∷ 2 ∷ 3 ∷ 10 ∷ 19 ∷ 9 ∷ 8 ∷ 4 ∷ 11 ∷ []
 
 pub record Demand2 : Type 0 where
   -- "The encoded cube is the one cube with the given data in which both check sums of every line on all three axes are zero":

@@ -22,7 +22,7 @@ placed = 11 ∷ 17 ∷ 18 ∷ []
 
 -- "Numbers 1 to 11 and 15 change no lent byte, nor does a number added later unless its request says so."
 unfoldable pub keeping : List ℕ
-keeping = 1 ∷ 2 ∷ 3 ∷ 4 ∷ 5 ∷ 6 ∷ 7 ∷ 8 ∷ 9 ∷ 10 ∷ 11 ∷ 15 ∷ 17 ∷ []
+keeping = 1 ∷ 2 ∷ 3 ∷ 4 ∷ 5 ∷ 6 ∷ 7 ∷ 8 ∷ 9 ∷ 10 ∷ 11 ∷ 15 ∷ 17 ∷ 19 ∷ []
 
 -- The call ends in a result, or in one of `numbers`, with a place exactly where the number names one; n leaves `Leaves n`.
 pub data Ends {A : Type 0} (numbers : List ℕ) (Leaves : ℕ → Type 0) : Value A → Type 0 where

@@ -5,7 +5,7 @@ use Prim.Native.Nat.{ℕ, _≤_}
 use lib.ListN.{length}
 use Rattle.answer.specs.Values.{Value, gives}
 use Rattle.field.specs.Field.{reduction}
-use Rattle.shape.specs.declared.Shape.{Shape}
+use Rattle.pack.specs.declared.Header.{Header}
 use Rattle.pack.specs.declared.Section.{Section}
 use Rattle.pack.specs.Packs.{Packet, airPack}
 use Rattle.receiver.specs.declared.Counts.{Counts}
@@ -35,9 +35,10 @@ pub record PlanKept (lent lent′ : Lists) (value : Value Reception) (entries : 
 unfoldable pub PlanDemand : Type 0
 PlanDemand =
     (l : Lists) (before f : List ℕ) → ListBytes l → WritePlanOutcome l before f (gives tt) →
-    (p : List ℕ) (sh : Shape) (x output : List ℕ) → Wrote p sh f x output →
-    (s : Section) × AllWritten sh f x output s
+    (p : List ℕ) (h : Header) (x output : List ℕ) → Wrote p h f x output →
+    (s : Section) × AllWritten h f x output s
     × ((ps : List Packet) (m m′ : Memory) (lent lent′ : Lists) (value : Value Reception) (counts : Counts) (entries : PlanCounts) →
-    Heard sh output s ps → Lent sh m → Room l lent → ReceivePlanOutcome reduction (airPack sh ps) m m′ lent lent′ value counts entries →
-    (OnlyEmpty sh (lost sh ps) → PlanBack l lent lent′ (length f) value entries)
-    × ((OnlyEmpty sh (lost sh ps) → ⊥) → PlanKept lent lent′ value entries))
+    Heard h output s ps → Lent (h .shape) m → Room l lent →
+    ReceivePlanOutcome reduction (airPack h ps) m m′ lent lent′ value counts entries →
+    (OnlyEmpty (h .shape) (lost h ps) → PlanBack l lent lent′ (length f) value entries)
+    × ((OnlyEmpty (h .shape) (lost h ps) → ⊥) → PlanKept lent lent′ value entries))

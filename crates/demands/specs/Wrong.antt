@@ -10,7 +10,9 @@ use Rattle.answer.specs.Values.{Value, gives, refused}
 use Rattle.field.specs.Field.{reduction}
 use Rattle.shape.specs.declared.Shape.{Shape}
 use Rattle.cube.specs.Encoded.{encoded}
-use Rattle.pack.specs.Packs.{Packet, jobPack, airPack, packetOf, everyPacket, dataString}
+use Rattle.pack.specs.declared.Header.{Header}
+use Rattle.pack.specs.Packs.{Packet, jobPack, airPack, packetOf, sentPackets, dataString}
+use Rattle.pack.specs.Reading.{headerFor}
 use Rattle.writer.specs.Write.{WriteOutcome}
 use Rattle.receiver.specs.declared.Counts.{Counts}
 use Rattle.receiver.specs.Gathering.{Reception, file, left}
@@ -21,13 +23,17 @@ use Rattle.demands.specs.Demand3.{Lent}
 unfoldable pub small : Shape
 small = record { l1 = 3; l2 = 3; l3 = 3; w = 5 }
 
+-- its header, with count 5
+unfoldable pub smallHeader : Header
+smallHeader = headerFor small
+
 -- the code cube of a file
 unfoldable pub cubeOf : List ℕ → List ℕ
 cubeOf contents = encoded reduction small (dataString small contents)
 
 -- a file's packets as an air pack, all but the first k
 unfoldable pub packetsFrom : ℕ → List ℕ → List ℕ
-packetsFrom k contents = airPack small (drop k (everyPacket small (cubeOf contents)))
+packetsFrom k contents = airPack smallHeader (drop k (sentPackets smallHeader (cubeOf contents)))
 
 -- a copy of a packet with other bytes
 unfoldable pub damaged : Packet → Packet
@@ -35,7 +41,7 @@ damaged k = record { a = k .a; b = k .b; c = k .c; bytes = map (λ b. (b + 1) % 
 
 -- every packet of a file, and before them a damaged copy of the first
 unfoldable pub damagedFirst : List ℕ → List Packet
-damagedFirst contents = damaged (packetOf small (cubeOf contents) 0) ∷ everyPacket small (cubeOf contents)
+damagedFirst contents = damaged (packetOf small (cubeOf contents) 0) ∷ sentPackets smallHeader (cubeOf contents)
 
 -- three copies of the last packet, of which one differs
 unfoldable pub lastThrice : List ℕ → List Packet
@@ -75,7 +81,7 @@ wrong =
     -- "a receiver that says Left before any filling": one cell is missing, and is forced
     receives (packetsFrom 1 (0x08 ∷ [])) (gives (left 1)) ∷
     -- "and one that invents its count": K has all 27 cells
-    receives (airPack small []) (gives (left 26)) ∷
+    receives (airPack smallHeader []) (gives (left 26)) ∷
     -- "one that refuses 13 whenever it likes"
     receives (packetsFrom 1 (0x08 ∷ [])) (refused 13) ∷
     -- "one that gives one file always"
@@ -83,11 +89,12 @@ wrong =
     -- "or refuses everything"
     refuses (packetsFrom 0 (0x08 ∷ [])) ∷
     -- "a writer that copies data and leaves parity 00h"
-    writes (jobPack small (0x08 ∷ [])) (parityLeft (0x08 ∷ [])) (airPack small (everyPacket small (parityLeft (0x08 ∷ [])))) ∷
+    writes (jobPack smallHeader (0x08 ∷ [])) (parityLeft (0x08 ∷ []))
+    (airPack smallHeader (sentPackets smallHeader (parityLeft (0x08 ∷ [])))) ∷
     -- request P3, "whichever came first": one that keeps the first copy, which contradicts the other cells
-    refuses (airPack small (damagedFirst (0x08 ∷ []))) ∷
+    refuses (airPack smallHeader (damagedFirst (0x08 ∷ []))) ∷
     -- "a third copy does not rescue it": one that takes the copy that came twice, from which alone the file would follow
-    opens (airPack small (lastThrice (0x08 ∷ []))) (0x08 ∷ []) ∷ []
+    opens (airPack smallHeader (lastThrice (0x08 ∷ []))) (0x08 ∷ []) ∷ []
 
 -- every outcome of a list is excluded
 unfoldable pub AllExcluded : List Outcome → Type 0
