@@ -43,7 +43,7 @@ pub fill-places : {r : ℕ} {sh : Shape} {xs fs xs′ fs′ : List ℕ} {v : Val
     → beside cellsLeft v ≡ 0
 unfolding beside
 fill-places f (FillOutcome.fill-refused _ _ _ _) e = refl
-fill-places f (FillOutcome.fill-done _ _ _ _ _) e = absurd (refusal-gives f _ (sym e))
+fill-places f (FillOutcome.fill-done _ _ _ _) e = absurd (refusal-gives f _ (sym e))
 fill-places f (FillOutcome.fill-contradiction _ _ _ _ _ _) e = refl
 
 pub axis-places : {r : ℕ} {sh : Shape} {axis : ℕ} {xs xs′ : List ℕ} {v : Value Unit} → AxisOutcome r sh axis xs xs′ v → beside uncounted v ≡ 0

@@ -10,8 +10,8 @@ use Rattle.shape.specs.declared.Shape.{Shape}
 use Rattle.pack.specs.declared.Header.{Header}
 use Rattle.pack.specs.declared.Section.{Section}
 use Rattle.pack.specs.Packs.{airSize}
-use Rattle.pack.specs.Reading.{airOf}
-use Rattle.pack.proofs.Sound.{air-sound, packets-le}
+use Rattle.pack.specs.Reading.{headerWith, headerFor, airOf, plainAirOf}
+use Rattle.pack.proofs.Sound.{air-sound, plain-air, packets-le}
 use Rattle.pack_writer.specs.declared.PackSize.{PackSize}
 use Rattle.pack_writer.specs.declared.PackSize.the-variants.{Bytes}
 use Rattle.pack_writer.specs.Writing.{sizeValue, airSizeChecked}
@@ -30,9 +30,9 @@ broken-le (packet-broken sh ks rest form _ _ _) = omega (arith, form .most)
 read-first : (p : List ℕ) (n : ℕ) (h : Header) (s : Section) → writeTextChecked p n ≡ passes (h, s) → airOf p ≡ passes (h, s)
 unfolding writeTextChecked
 read-first p n h s e =
-    let (air, read, rest) = then-passed (airOf p) _ (h, s) e in
+    let (air, read, rest) = then-passed (plainAirOf p) _ (h, s) e in
     let (_, told) = check-passed _ 4 _ (h, s) rest in
-    read ∙ told
+    plain-air p h s (read ∙ told)
 
 pub write-text-lt : {p before after : List ℕ} {v : Value Unit} → WriteTextOutcome p before after v → ((i : ℕ) → getD p i 0 < 256)
     → beside uncounted v < 2 ^ 45
@@ -54,13 +54,14 @@ read-text-lt (read-done _ _ _ _ _ _ _) = omega arith
 pub text-size-lt : (p : List ℕ) (c : Checked ℕ) → c ≡ textSizeChecked p → ((i : ℕ) → getD p i 0 < 256) → beside whole (checked c) < 2 ^ 45
 unfolding textSizeChecked beside whole checked
 text-size-lt p (passes n) e small =
-    let ((h, s), read, told) = then-passed (airOf p) _ n (sym e) in
+    let ((h, s), plain, told) = then-passed (plainAirOf p) _ n (sym e) in
+    let read = plain-air p h s plain in
     let size : length (textIn p (h, s)) ≡ n = cc in
     omega (arith, text-le p h s read, air-sound p h s read .few small)
 text-size-lt p (fails n) e small = omega arith
 
 air-size-lt : (sh : Shape) (n : ℕ) (c : Checked ℕ) → c ≡ airSizeChecked sh n → n ≤ 4294967295 → beside whole (checked c) < 2 ^ 45
-unfolding beside whole checked airSize
+unfolding beside whole checked airSize headerFor headerWith
 air-size-lt sh n (passes size) e few =
     let (v, _, same) = air-size-passed sh n size (sym e) in
     omega (arith, packets-le n (sh .w) (omega arith) (v .w-high))

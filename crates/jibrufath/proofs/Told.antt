@@ -36,35 +36,35 @@ refusal-tabled (Packet CellIndex i) = placed 11 i packet
 refusal-tabled (Line n) = placed 17 n line
 refusal-tabled (Entry at) = placed 18 at entry
 
--- a number of the table that is not 11
-fault-range : (f : Fault) → (1 ≤ faultNumber f) × (faultNumber f ≤ 16) × (faultNumber f ≡ 11 → ⊥)
+-- a number of the table that names no place
+fault-range : (f : Fault) → (1 ≤ faultNumber f) × (faultNumber f ≤ 19) × (faultNumber f ≡ 11 → ⊥) × (faultNumber f ≡ 17 → ⊥) × (faultNumber f ≡ 18 → ⊥)
 unfolding faultNumber
-fault-range Dimension = (omega arith, omega arith, λ e. omega arith)
-fault-range PacketSize = (omega arith, omega arith, λ e. omega arith)
-fault-range CubeSize = (omega arith, omega arith, λ e. omega arith)
-fault-range SliceLength = (omega arith, omega arith, λ e. omega arith)
-fault-range FlagValue = (omega arith, omega arith, λ e. omega arith)
-fault-range Truncated = (omega arith, omega arith, λ e. omega arith)
-fault-range HeaderCount = (omega arith, omega arith, λ e. omega arith)
-fault-range TrailingBytes = (omega arith, omega arith, λ e. omega arith)
-fault-range SectionCount = (omega arith, omega arith, λ e. omega arith)
-fault-range Capacity = (omega arith, omega arith, λ e. omega arith)
-fault-range Contradiction = (omega arith, omega arith, λ e. omega arith)
-fault-range FileLength = (omega arith, omega arith, λ e. omega arith)
-fault-range Erasure = (omega arith, omega arith, λ e. omega arith)
-fault-range Uncorrected = (omega arith, omega arith, λ e. omega arith)
-fault-range UsedCells = (omega arith, omega arith, λ e. omega arith)
+fault-range Dimension = (omega arith, omega arith, λ e. omega arith, λ e. omega arith, λ e. omega arith)
+fault-range PacketSize = (omega arith, omega arith, λ e. omega arith, λ e. omega arith, λ e. omega arith)
+fault-range CubeSize = (omega arith, omega arith, λ e. omega arith, λ e. omega arith, λ e. omega arith)
+fault-range SliceLength = (omega arith, omega arith, λ e. omega arith, λ e. omega arith, λ e. omega arith)
+fault-range FlagValue = (omega arith, omega arith, λ e. omega arith, λ e. omega arith, λ e. omega arith)
+fault-range Truncated = (omega arith, omega arith, λ e. omega arith, λ e. omega arith, λ e. omega arith)
+fault-range HeaderCount = (omega arith, omega arith, λ e. omega arith, λ e. omega arith, λ e. omega arith)
+fault-range TrailingBytes = (omega arith, omega arith, λ e. omega arith, λ e. omega arith, λ e. omega arith)
+fault-range SectionCount = (omega arith, omega arith, λ e. omega arith, λ e. omega arith, λ e. omega arith)
+fault-range Capacity = (omega arith, omega arith, λ e. omega arith, λ e. omega arith, λ e. omega arith)
+fault-range Contradiction = (omega arith, omega arith, λ e. omega arith, λ e. omega arith, λ e. omega arith)
+fault-range FileLength = (omega arith, omega arith, λ e. omega arith, λ e. omega arith, λ e. omega arith)
+fault-range Erasure = (omega arith, omega arith, λ e. omega arith, λ e. omega arith, λ e. omega arith)
+fault-range Uncorrected = (omega arith, omega arith, λ e. omega arith, λ e. omega arith, λ e. omega arith)
+fault-range UsedCells = (omega arith, omega arith, λ e. omega arith, λ e. omega arith, λ e. omega arith)
 
 named-range : {n : ℕ} → Named n → (11 ≤ n) × (n ≤ 18)
 named-range packet = (omega arith, omega arith)
 named-range line = (omega arith, omega arith)
 named-range entry = (omega arith, omega arith)
 
-pub tabled-number : {A : Type 0} {v : Value A} → Tabled v → numberOf v ≤ 18
+pub tabled-number : {A : Type 0} {v : Value A} → Tabled v → numberOf v ≤ 19
 unfolding numberOf
 tabled-number (result a) = omega arith
-tabled-number (fault f) = let l : faultNumber f ≤ 18 = omega (arith, fault-range f .1) in l
-tabled-number (placed n i t) = named-range t .1
+tabled-number (fault f) = fault-range f .1
+tabled-number (placed n i t) = let l : n ≤ 19 = omega (arith, named-range t .1) in l
 
 -- neither a result nor a refusal with a place has the number of another refusal
 fault-result : (f : Fault) → 0 ≡ faultNumber f → ⊥
@@ -72,8 +72,8 @@ fault-result f e = omega (arith, fault-range f .0)
 
 fault-named : (f : Fault) {n : ℕ} → Named n → faultNumber f ≡ n → ⊥
 fault-named f packet e = fault-range f .2 e
-fault-named f line e = omega (arith, fault-range f .1)
-fault-named f entry e = omega (arith, fault-range f .1)
+fault-named f line e = fault-range f .3 e
+fault-named f entry e = fault-range f .4 e
 
 -- where a count tells its result, two values with one number and one count or place are one
 told : {A : Type 0} (count : A → ℕ) {v w : Value A} → ((a b : A) → v ≡ gives a → w ≡ gives b → count a ≡ count b → a ≡ b) → Tabled v → Tabled w

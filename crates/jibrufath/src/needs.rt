@@ -6,7 +6,7 @@ ghost use mathlib.Core.Path.{_≡_};
 ghost use Rattle.pack.proofs.Sound.{HeaderSound};
 ghost use Rattle.jibrufath.specs.Needs.{needsOf, NeedsExport};
 
-// The shape in section 1 and the sizes of what its calls are lent; 16 zeros with a refusal.
+// The shape in section 1, the sizes of what its calls are lent, and the data cells in use; 16 zeros with a refusal.
 #[no_mangle]
 pub extern "C" fn jibrufath_needs(pack: &[u8], needs: &mut [u64; 16]) -> u64
     ensures { λ r. ⌜ NeedsExport (now (pack .entry)) (now (needs .exit)) r ⌝ }
@@ -26,11 +26,11 @@ pub extern "C" fn jibrufath_needs(pack: &[u8], needs: &mut [u64; 16]) -> u64
 // What the calls of a pack with this header are lent.
 fn needs_of(h: Header) -> [u64; 16]
     requires { ⌜ HeaderSound h ⌝ }
-    ensures { λ r. ⌜ r ≡ needsOf (h .shape) ⌝ }
+    ensures { λ r. ⌜ r ≡ needsOf h ⌝ }
 {
     let sh = h.shape;
     let z = h.sizes;
-    match pack_writer::pack_bytes(sh) {
+    match pack_writer::written_bytes(h) {
         PackSize::Refused(_) => [0; 16],
         PackSize::Bytes(size) => [
             sh.l1 as u64,
@@ -42,7 +42,7 @@ fn needs_of(h: Header) -> [u64; 16]
             z.capacity as u64,
             (z.capacity - 4) as u64,
             size as u64,
-            0,
+            h.used as u64,
             0,
             0,
             0,

@@ -17,7 +17,7 @@ mul-result c = search needs
 
 add-result : tie.Need-add-result
 add-result c =
-    let number : c .before .number .result ≤ 18 = rw (c .before .number .ensures) (tabled-number (refusal-tabled (c .before .before .args .f))) in
+    let number : c .before .number .result ≤ 19 = rw (c .before .number .ensures) (tabled-number (refusal-tabled (c .before .before .args .f))) in
     omega (arith, number, c .place .ensures)
 
 returns : tie.Need-returns

@@ -1,13 +1,14 @@
 -- `jibrufath::needs::needs_of` meets its contract: a header that was read has a valid shape, its sizes, and room for the file's length.
 use borrow.Author.Needs.{needs}
 use Rattle.shape.specs.Shapes.{sizes}
-use Rattle.pack_writer.proofs.Outcomes.{size-given, size-refused}
-use Rattle.jibrufath.specs.Needs.{needsOf}
+use Rattle.pack.proofs.Sound.{sound-sent}
+use Rattle.pack_writer.proofs.Outcomes.{written-given, written-refused}
+use Rattle.jibrufath.proofs.SizeBounds.{needs-listed}
 use Rattle.jibrufath.proofs.needs.needs_of.Statement.{statement}
 use Rattle.jibrufath.proofs.needs.needs_of.Tie as tie
 
-pack-bytes-requires : tie.Need-pack-bytes-requires
-pack-bytes-requires c κs = search needs
+written-bytes-requires : tie.Need-written-bytes-requires
+written-bytes-requires c κs = search needs
 
 enum-told : tie.Need-enum-told
 enum-told c = search needs
@@ -24,16 +25,15 @@ sub-t14 c =
 returns : tie.Need-returns
 returns c =
     let k = c .before .before in
-    absurd (size-refused _ (k .before .before .before .pre .valid) _ (k .pack-bytes .ensures) _ (c .enum-told .given .1))
+    absurd (written-refused _ (sound-sent _ (k .before .before .before .pre)) _ (k .written-bytes .ensures) _ (c .enum-told .given .1))
 
 returns-2 : tie.Need-returns-2
-unfolding needsOf sizes
 returns-2 c =
     let k = c .before .before in
     let p = k .before .before in
     let h = p .before .before .before .pre in
-    rw (h .measured, size-given _ (h .valid) _ (p .pack-bytes .ensures) _ (k .size .given .1))
+    needs-listed _ _ _ (h .measured) (written-given _ (sound-sent _ h) _ (p .written-bytes .ensures) _ (k .size .given .1))
 
 pub needs-of-spec : {M : Type 1} → statement M
 needs-of-spec =
-    tie.close (tie.spec pack-bytes-requires enum-told enum-known-size sub-t14 returns returns-2)
+    tie.close (tie.spec written-bytes-requires enum-told enum-known-size sub-t14 returns returns-2)
