@@ -14,7 +14,7 @@ use Rattle.text_writer.proofs.write_read.Statement.{statement}
 use Rattle.text_writer.proofs.write_read.Tie as tie
 
 text-length-requires : tie.Need-text-length-requires
-text-length-requires c κs = plain-air _ _ _ (c .before .before .pre)
+text-length-requires c κs = search (plain-air, needs)
 
 returns : tie.Need-returns
 unfolding answerValue refusal faultNumber
@@ -34,10 +34,7 @@ returns-2 c =
     write-outside _ _ _ fits (c .before .before .first-outside .ensures) (omega (arith, c .if2 .taken)) refl
 
 put-text-requires : tie.Need-put-text-requires
-put-text-requires c κs =
-    let found = c .before .before .before in
-    let told = found .before .before in
-    (plain-air _ _ _ (told .before .before .before .pre), omega (arith, found .before .if1 .left, told .text-length .ensures))
+put-text-requires c κs = search (plain-air, needs)
 
 same-length : tie.Need-same-length
 same-length c = search needs
