@@ -1,6 +1,6 @@
 //! Copies of cells, as they come through more than one transponder: equal, different, lost.
 
-use reference::Shape;
+use reference::Header;
 use reference::pack::{Packet, pack};
 use reference::random::Random;
 
@@ -22,12 +22,14 @@ impl CellCopy {
 }
 
 /// The air pack of these copies, in their order.
-pub fn air_of(shape: Shape, copies: &[CellCopy]) -> Vec<u8> {
+pub fn air_of(header: impl Into<Header>, copies: &[CellCopy]) -> Vec<u8> {
+    let header = header.into();
+    let shape = header.shape;
     let packets = copies.iter().map(|CellCopy { cell, bytes }| Packet {
         place: shape.coordinates(*cell).map(|coordinate| coordinate as u8),
         bytes,
     });
-    pack(shape, &[], &packets.collect::<Vec<_>>())
+    pack(header, &[], &packets.collect::<Vec<_>>())
 }
 
 impl Source {
@@ -39,11 +41,10 @@ impl Source {
         }
     }
 
-    /// Every cell as it was sent.
+    /// Every cell that is sent.
     pub fn all_sent(&self) -> Vec<CellCopy> {
-        (0..self.shape.cells())
-            .map(|cell| self.sent(cell))
-            .collect()
+        let cells = self.header().sent().into_iter();
+        cells.map(|cell| self.sent(cell)).collect()
     }
 
     /// Two to five copies of a cell that are not all equal, whatever their bytes.
@@ -69,10 +70,14 @@ impl Source {
         let mut copies = self.all_sent();
         copies.retain(|_| !random.chance(percent));
         let count = random.among(1..=6);
-        for cell in random.different(count, self.shape.cells()) {
+        for cell in random
+            .shuffled(&self.header().sent())
+            .into_iter()
+            .take(count)
+        {
             copies.extend(self.differing(random, cell));
         }
-        air_of(self.shape, &random.shuffled(&copies))
+        air_of(self.header(), &random.shuffled(&copies))
     }
 
     /// A cell as it was sent, with a byte changed, or with any bytes.
@@ -91,12 +96,12 @@ impl Source {
 pub(crate) fn one_differs(random: &mut Random) -> Vec<u8> {
     let source = Source::random(random);
     let mut copies = source.all_sent();
-    let mut copy = source.sent(random.among(0..=copies.len() - 1));
+    let mut copy = copies[random.among(0..=copies.len() - 1)].clone();
     let again = random.among(0..=3);
     copies.extend(vec![copy.clone(); again]);
     copy.damage(random);
     copies.push(copy);
-    air_of(source.shape, &random.shuffled(&copies))
+    air_of(source.header(), &random.shuffled(&copies))
 }
 
 /// Several cells have copies that differ, among packets that are lost at random.
@@ -107,11 +112,11 @@ pub(crate) fn some_differ(random: &mut Random) -> Vec<u8> {
 /// No cell has copies that are all equal.
 pub(crate) fn all_differ(random: &mut Random) -> Vec<u8> {
     let source = Source::random(random);
-    let cells = 0..source.shape.cells();
+    let cells = source.header().sent().into_iter();
     let copies: Vec<CellCopy> = cells
         .flat_map(|cell| source.differing(random, cell))
         .collect();
-    air_of(source.shape, &random.shuffled(&copies))
+    air_of(source.header(), &random.shuffled(&copies))
 }
 
 /// Copies that differ in nothing but their last byte.
@@ -119,12 +124,11 @@ pub(crate) fn last_byte_differs(random: &mut Random) -> Vec<u8> {
     let source = Source::random(random);
     let mut copies = source.all_sent();
     let count = random.among(1..=3);
-    for cell in random.different(count, source.shape.cells()) {
-        let mut copy = source.sent(cell);
+    for mut copy in random.shuffled(&copies).into_iter().take(count) {
         copy.bytes[source.shape.w - 1] ^= random.nonzero_byte();
         copies.push(copy);
     }
-    air_of(source.shape, &random.shuffled(&copies))
+    air_of(source.header(), &random.shuffled(&copies))
 }
 
 /// Every packet is sent twice, and each copy is lost or damaged by itself. The second transponder comes behind the first, or both at
@@ -142,12 +146,13 @@ pub(crate) fn two_transponders(random: &mut Random) -> Vec<u8> {
     if random.chance(50) {
         copies = random.shuffled(&copies);
     }
-    air_of(source.shape, &copies)
+    air_of(source.header(), &copies)
 }
 
 #[cfg(test)]
 mod tests {
     use super::*;
+    use reference::Shape;
     use reference::write::data_string;
 
     #[test]

@@ -16,8 +16,8 @@ pub struct CubeTrial {
 }
 
 impl CubeTrial {
-    /// A random code cube in which bytes may be wrong and cells missing. Now and then a flag is neither 0 nor 1, a slice has a wrong
-    /// length, or the calls are given another shape.
+    /// A random code cube in which bytes may be wrong, cells missing, and known cells unsent. Now and then a flag is any byte but 0, a
+    /// slice has a wrong length, or the calls are given another shape.
     pub fn random(random: &mut Random, shape: Shape) -> CubeTrial {
         let mut lent = FillTrial::new(random, shape);
         let last = lent.flags.len() - 1;
@@ -29,8 +29,13 @@ impl CubeTrial {
             let percent = random.among(0..=95);
             lent.lose_percent(random, percent);
         }
+        if random.chance(30) {
+            let percent = random.among(1..=100);
+            lent.unsend_percent(random, percent);
+        }
         if random.chance(5) {
-            lent.flags[random.among(0..=last)] = random.nonzero_byte();
+            let any = random.nonzero_byte();
+            lent.flags[random.among(0..=last)] = random.pick(&[3, 255, any]);
         }
         for slice in [&mut lent.cube, &mut lent.flags] {
             let len = nearly(random, slice.len());

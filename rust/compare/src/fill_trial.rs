@@ -45,6 +45,15 @@ impl FillTrial {
         }
     }
 
+    /// Flags each known cell as unsent with this chance, whatever it holds.
+    pub fn unsend_percent(&mut self, random: &mut Random, percent: usize) {
+        for flag in &mut self.flags {
+            if *flag == 0 && random.chance(percent) {
+                *flag = 2;
+            }
+        }
+    }
+
     /// Adds to one byte of a cell, in a random layer.
     pub fn spoil(&mut self, random: &mut Random, cell: usize) {
         let layer = random.among(0..=self.shape.w - 1);

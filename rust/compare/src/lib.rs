@@ -18,6 +18,7 @@ mod shapes;
 mod text_trial;
 mod texts;
 mod trial;
+mod unsent;
 
 use agreement::compare;
 pub use agreement::{Agreed, agree, numbered, placed};
@@ -35,3 +36,4 @@ pub use shapes::{LARGE_SHAPES, SHAPES_AT_THE_LIMITS, narrow_shapes, random_shape
 pub use text_trial::{FromText, ToText};
 pub use texts::{TEXT_KINDS, broken_words};
 pub use trial::{Answers, Lens, Trial};
+pub use unsent::random_used;

@@ -2,19 +2,20 @@
 
 use std::ops::Range;
 
-use reference::Shape;
-use reference::pack::{COUNT, pack, packet, read_shape};
+use reference::pack::{COUNT, pack, packet, read_header};
 use reference::random::Random;
 use reference::write::data_string;
+use reference::{Header, Shape};
 
 use crate::copies::{all_differ, last_byte_differs, one_differs, some_differ, two_transponders};
+use crate::unsent::{file_at_the_limit, header_cut, other_used, random_used, unsent_packet};
 use crate::{Embedded, SHAPES_AT_THE_LIMITS, random_shape, twin};
 
 /// Makes a random pack.
 type Make = fn(&mut Random) -> Vec<u8>;
 
 /// The kinds of packs, each with the function that makes one.
-pub const KINDS: [(&str, Make); 22] = [
+pub const KINDS: [(&str, Make); 26] = [
     ("a file to write", job),
     ("every packet", every_packet),
     ("packets lost at random", lost_at_random),
@@ -37,6 +38,10 @@ pub const KINDS: [(&str, Make); 22] = [
     ("another shape", other_shape),
     ("bytes changed", bytes_changed),
     ("garbage", garbage),
+    ("a packet for an unsent cell", unsent_packet),
+    ("another number of data cells in use", other_used),
+    ("a file that just fits the cells in use", file_at_the_limit),
+    ("section 1 of count 9 cut", header_cut),
 ];
 
 /// How many of the kinds, the first ones, are whole packs.
@@ -45,16 +50,14 @@ const WHOLE: usize = 7;
 /// The kinds in which copies of a cell differ.
 pub const COPY_KINDS: Range<usize> = 9..14;
 
-/// Where the packets of an air pack begin.
-const HEAD: usize = 17;
+/// The most bytes of an air pack before its packets.
+const MOST_HEAD: usize = 21;
 
-/// Where a packet of an air pack begins.
-fn start_of(shape: Shape, index: usize) -> usize {
-    HEAD + index * shape.packet_bytes()
-}
+/// So many of a hundred packs have a section 1 of count 9, where the kind asks for neither count.
+const USED_PERCENT: usize = 33;
 
 /// A shape whose data string has room for the file's length.
-fn roomy_shape(random: &mut Random) -> Shape {
+pub(crate) fn roomy_shape(random: &mut Random) -> Shape {
     loop {
         let shape = twin(random_shape(random));
         if shape.capacity() >= COUNT {
@@ -63,9 +66,22 @@ fn roomy_shape(random: &mut Random) -> Shape {
     }
 }
 
-/// A file that the shape has room for; now and then the shortest, the longest, or one that ends in 00h.
-fn random_file(random: &mut Random, shape: Shape) -> Vec<u8> {
-    let room = shape.file_bytes();
+/// Such a shape with all data cells in use, or with some that have this room.
+fn roomy_header(random: &mut Random) -> Header {
+    let shape = roomy_shape(random);
+    perhaps_used(random, shape)
+}
+
+fn perhaps_used(random: &mut Random, shape: Shape) -> Header {
+    match random.chance(USED_PERCENT) {
+        true => random_used(random, shape),
+        false => shape.into(),
+    }
+}
+
+/// A file that the data cells in use have room for; now and then the shortest, the longest, or one that ends in 00h.
+fn random_file(random: &mut Random, header: Header) -> Vec<u8> {
+    let room = header.used_cells() * header.shape.w - COUNT;
     let len = match random.among(0..=9) {
         0 => 0,
         1 => room,
@@ -78,29 +94,38 @@ fn random_file(random: &mut Random, shape: Shape) -> Vec<u8> {
     file
 }
 
-/// A code cube that packets are taken from.
+/// A code cube that packets are taken from, and the number of its data cells in use, where section 1 says it.
 pub struct Source {
     pub shape: Shape,
+    pub used: Option<usize>,
     pub cube: Vec<u8>,
 }
 
 impl Source {
-    /// The code cube with this data string.
-    pub fn new(shape: Shape, data: &[u8]) -> Source {
+    /// The code cube with this data string, which should be 00h behind the data cells in use.
+    pub fn new(header: impl Into<Header>, data: &[u8]) -> Source {
+        let Header { shape, used } = header.into();
         let mut cube = vec![0; shape.cube_bytes()];
         reference::encode(shape, data, &mut cube).expect("the shape is good");
-        Source { shape, cube }
+        Source { shape, used, cube }
     }
 
-    /// The code cube with a random file, in a shape that has room for one.
-    pub fn of_shape(random: &mut Random, shape: Shape) -> Source {
-        let file = random_file(random, shape);
-        Source::new(shape, &data_string(shape, &file))
+    /// The code cube with a random file, where there is room for one.
+    pub fn with_file(random: &mut Random, header: impl Into<Header>) -> Source {
+        let header = header.into();
+        let file = random_file(random, header);
+        Source::new(header, &data_string(header.shape, &file))
     }
 
     pub(crate) fn random(random: &mut Random) -> Source {
-        let shape = roomy_shape(random);
-        Source::of_shape(random, shape)
+        let header = roomy_header(random);
+        Source::with_file(random, header)
+    }
+
+    /// What section 1 of its packs says.
+    pub fn header(&self) -> Header {
+        let Source { shape, used, .. } = *self;
+        Header { shape, used }
     }
 
     /// The air pack with the packets of these cells, each any number of times, in any order.
@@ -121,32 +146,34 @@ impl Source {
         let packets = cells
             .iter()
             .map(|&cell| packet(self.shape, &self.cube, cell));
-        pack(self.shape, &[], &packets.collect::<Vec<_>>())
+        pack(self.header(), &[], &packets.collect::<Vec<_>>())
     }
 
-    /// The air pack of a random part of the cells.
+    /// The air pack of a random part of the cells that are sent.
     pub(crate) fn some_of_it(&self, random: &mut Random) -> Vec<u8> {
         let percent = random.among(0..=100);
-        let cells = (0..self.shape.cells()).filter(|_| !random.chance(percent));
-        let cells = cells.collect();
+        let mut cells = self.header().sent();
+        cells.retain(|_| !random.chance(percent));
         self.air(random, cells)
     }
 
-    /// The air pack without the cells that are lost.
+    /// The air pack of the cells that are sent, without those that are lost.
     pub fn without(&self, random: &mut Random, lost: impl Fn(usize) -> bool) -> Vec<u8> {
-        let cells = (0..self.shape.cells()).filter(|&cell| !lost(cell));
-        self.air(random, cells.collect())
+        let mut cells = self.header().sent();
+        cells.retain(|&cell| !lost(cell));
+        self.air(random, cells)
     }
 }
 
-fn job(random: &mut Random) -> Vec<u8> {
-    let shape = roomy_shape(random);
-    job_of_shape(random, shape)
+pub(crate) fn job(random: &mut Random) -> Vec<u8> {
+    let header = roomy_header(random);
+    job_of(random, header)
 }
 
-/// A file to write, in a shape that has room for one.
-pub(crate) fn job_of_shape(random: &mut Random, shape: Shape) -> Vec<u8> {
-    pack(shape, &random_file(random, shape), &[])
+/// A file to write, where there is room for one.
+pub(crate) fn job_of(random: &mut Random, header: impl Into<Header>) -> Vec<u8> {
+    let header = header.into();
+    pack(header, &random_file(random, header), &[])
 }
 
 fn every_packet(random: &mut Random) -> Vec<u8> {
@@ -185,19 +212,24 @@ fn stopping_set_lost(random: &mut Random) -> Vec<u8> {
     if random.chance(30) {
         set.cells.pop();
     }
-    let source = Source::of_shape(random, twin(set.shape));
+    let header = perhaps_used(random, twin(set.shape));
+    let source = Source::with_file(random, header);
     source.without(random, |cell| set.cells.contains(&cell))
 }
 
 fn no_packet(random: &mut Random) -> Vec<u8> {
-    pack(roomy_shape(random), &[], &[])
+    pack(roomy_header(random), &[], &[])
 }
 
 fn no_room(random: &mut Random) -> Vec<u8> {
     let w = random.among(1..=3);
     let count = random.among(0..=2);
     let file = random.bytes(count);
-    pack(Shape::new(3, 3, 3, w), &file, &[])
+    let shape = Shape::new(3, 3, 3, w);
+    match random.chance(USED_PERCENT) {
+        true => pack(shape.used(random.among(0..=2)), &file, &[]),
+        false => pack(shape, &file, &[]),
+    }
 }
 
 fn wrong_bytes(random: &mut Random) -> Vec<u8> {
@@ -213,9 +245,10 @@ fn cell_outside(random: &mut Random) -> Vec<u8> {
     let source = Source::random(random);
     let shape = source.shape;
     let mut air = source.without(random, |_| false);
-    let packets = (air.len() - HEAD) / shape.packet_bytes();
+    let head = source.header().bytes();
+    let packets = (air.len() - head) / shape.packet_bytes();
     for _ in 0..random.among(1..=2) {
-        let start = start_of(shape, random.among(0..=packets - 1));
+        let start = head + random.among(0..=packets - 1) * shape.packet_bytes();
         let axis = random.among(0..=2);
         air[start + axis] = random.among(shape.lengths[axis]..=255) as u8;
     }
@@ -223,9 +256,10 @@ fn cell_outside(random: &mut Random) -> Vec<u8> {
 }
 
 fn no_file(random: &mut Random) -> Vec<u8> {
-    let shape = roomy_shape(random);
+    let header = roomy_header(random);
+    let shape = header.shape;
     let room = shape.file_bytes() as u32;
-    let mut data = data_string(shape, &random_file(random, shape));
+    let mut data = data_string(shape, &random_file(random, header));
     let last = data.len() - 1;
     match random.among(0..=3) {
         0 => data.fill_with(|| random.byte()),
@@ -237,11 +271,11 @@ fn no_file(random: &mut Random) -> Vec<u8> {
             data[..COUNT].copy_from_slice(&len.to_le_bytes());
         }
     }
-    Source::new(shape, &data).some_of_it(random)
+    Source::new(header, &data).some_of_it(random)
 }
 
 /// Any whole pack; half of them are jobs.
-fn whole(random: &mut Random) -> Vec<u8> {
+pub(crate) fn whole(random: &mut Random) -> Vec<u8> {
     if random.chance(50) {
         return job(random);
     }
@@ -252,7 +286,7 @@ fn whole(random: &mut Random) -> Vec<u8> {
 fn cut(random: &mut Random) -> Vec<u8> {
     let mut pack = whole(random);
     let last = pack.len() - 1;
-    let most = random.pick(&[last, last.min(HEAD + 10)]);
+    let most = random.pick(&[last, last.min(MOST_HEAD + 6)]);
     pack.truncate(random.among(0..=most));
     pack
 }
@@ -270,15 +304,18 @@ fn other_count(random: &mut Random) -> Vec<u8> {
         let count = pack[at..at + COUNT].try_into().expect("four bytes");
         u32::from_le_bytes(count)
     };
-    let places = [0, 9, 13 + count_at(9) as usize];
+    let file = COUNT + count_at(0) as usize;
+    let places = [0, file, file + COUNT + count_at(file) as usize];
     let at = random.pick(&places);
     let count = count_at(at);
-    let room = read_shape(&pack).expect("the shape is good").file_bytes() as u32;
+    let header = read_header(&pack).expect("section 1 is good");
+    let room = header.shape.file_bytes() as u32;
     let others = [
         0,
         1,
         count.wrapping_sub(1),
         count + 1,
+        random.among(5..=10) as u32,
         room,
         room + 1,
         0x2000_0000,
@@ -311,7 +348,7 @@ fn bytes_changed(random: &mut Random) -> Vec<u8> {
     let mut pack = whole(random);
     let last = pack.len() - 1;
     for _ in 0..random.among(1..=3) {
-        let most = random.pick(&[last, HEAD - 1]);
+        let most = random.pick(&[last, last.min(MOST_HEAD - 1)]);
         pack[random.among(0..=most)] ^= random.nonzero_byte();
     }
     pack
@@ -324,7 +361,8 @@ fn garbage(random: &mut Random) -> Vec<u8> {
     if random.chance(50) {
         return bytes;
     }
-    let mut head = pack(roomy_shape(random), &[], &[]);
-    head.truncate(9);
+    let header = roomy_header(random);
+    let mut head = pack(header, &[], &[]);
+    head.truncate(header.bytes() - 2 * COUNT);
     [head, bytes].concat()
 }

@@ -259,7 +259,8 @@ fn no_plan(random: &mut Random) -> Vec<u8> {
     }
 }
 
-/// Some of the packets of a cube that has room for the file, with the file in it; now and then copies of cells differ.
+/// Some of the packets of a cube that has room for the file, with the file in it; now and then copies of cells differ, or data cells
+/// behind the file are unsent.
 pub(crate) fn pack_of(random: &mut Random, file: &[u8]) -> Vec<u8> {
     let shape = loop {
         let [l1, l2, l3] = [0; 3].map(|_| random.among(3..=6));
@@ -269,7 +270,13 @@ pub(crate) fn pack_of(random: &mut Random, file: &[u8]) -> Vec<u8> {
             break Shape::new(l1, l2, l3, w);
         }
     };
-    let source = Source::new(shape, &data_string(shape, file));
+    let least = (COUNT + file.len()).div_ceil(shape.w);
+    let most = shape.number_of_data_cells();
+    let header = match random.chance(25) {
+        true => shape.used(random.among(least..=most)),
+        false => shape.into(),
+    };
+    let source = Source::new(header, &data_string(shape, file));
     match random.chance(25) {
         true => source.some_differ(random),
         false => source.some_of_it(random),

@@ -7,11 +7,11 @@ use reference::random::Random;
 use reference::text::{Text, print};
 
 use crate::cube_trial::{CubeTrial, HIGH_BITS, numbers, shape_of};
-use crate::packs::job_of_shape;
+use crate::packs::job_of;
 use crate::shapes::EDGE_WIDTHS;
 use crate::{
     Calls, FromText, Kind, PLAN_KINDS, PlanFile, PlanLists, PlanPack, SHAPES_AT_THE_LIMITS,
-    ScanTrial, Source, TEXT_KINDS, ToText, Trial, narrow_shapes, random_shape, twin,
+    ScanTrial, Source, TEXT_KINDS, ToText, Trial, narrow_shapes, random_shape, random_used, twin,
 };
 
 /// The file of the calls for so many random packs, texts and plans, each kind in its turn, and for half as many cubes, but for those
@@ -114,15 +114,18 @@ fn record_long_runs(random: &mut Random, calls: &mut Calls) {
     record_packs_of(random, twin(LONG_RUNS[0]), calls);
 }
 
-/// A file to write, and some of the packets of another one, in a shape that has room for them.
+/// A file to write, and some of the packets of another one, in a shape that has room for them: with all data cells in use, and with
+/// some.
 fn record_packs_of(random: &mut Random, shape: reference::Shape, calls: &mut Calls) {
-    let job = job_of_shape(random, shape);
-    Trial::new(job).record(random, calls);
-    let air = Source::of_shape(random, shape).some_of_it(random);
-    let text = print(&Text::of_air(&read_air(&air).expect("a whole pack")));
-    FromText::new(text.into()).record(random, calls);
-    ToText::new(air.clone()).record(random, calls);
-    Trial::new(air).record(random, calls);
+    for header in [shape.into(), random_used(random, shape)] {
+        let job = job_of(random, header);
+        Trial::new(job).record(random, calls);
+        let air = Source::with_file(random, header).some_of_it(random);
+        let text = print(&Text::of_air(&read_air(&air).expect("a whole pack")));
+        FromText::new(text.into()).record(random, calls);
+        ToText::new(air.clone()).record(random, calls);
+        Trial::new(air).record(random, calls);
+    }
 }
 
 /// Every byte, and every two.

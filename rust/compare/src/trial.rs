@@ -1,9 +1,9 @@
 //! One pack for the writer and the receiver of both programs.
 
 use jibrufath::{Needs, Received, needs, receive_pack, write_pack};
-use reference::pack::read_shape;
+use reference::pack::read_header;
 use reference::random::Random;
-use reference::{Outcome, Shape};
+use reference::{Header, Outcome, Shape};
 
 use crate::{Calls, KINDS, compare, numbered, placed};
 
@@ -34,13 +34,15 @@ pub struct Answers {
 const MOST_BYTES: usize = 1_000_000;
 
 impl Lens {
-    /// The exact lengths for a shape.
-    pub fn exact(shape: Shape) -> Lens {
+    /// The exact lengths for a shape, or for one whose data cells are not all in use.
+    pub fn exact(header: impl Into<Header>) -> Lens {
+        let header = header.into();
+        let shape = header.shape;
         Lens {
             cube: shape.cube_bytes(),
             flags: shape.cells(),
             file: shape.file_bytes(),
-            output: shape.pack_bytes(),
+            output: header.pack_bytes(),
         }
     }
 
@@ -64,9 +66,9 @@ impl Trial {
     /// The pack, with slices of the exact lengths for its shape; those of a small cube where it has no good shape or too large
     /// a one.
     pub fn new(pack: Vec<u8>) -> Trial {
-        let shape = read_shape(&pack).ok();
-        let shape = shape.filter(|shape| shape.cube_bytes() <= MOST_BYTES);
-        let lens = Lens::exact(shape.unwrap_or(Shape::new(3, 3, 3, 5)));
+        let header = read_header(&pack).ok();
+        let header = header.filter(|header| header.shape.cube_bytes() <= MOST_BYTES);
+        let lens = Lens::exact(header.unwrap_or(Shape::new(3, 3, 3, 5).into()));
         Trial { pack, lens }
     }
 
@@ -175,6 +177,7 @@ fn told_needs(needs: Needs) -> [u64; 16] {
         needs.capacity,
         needs.file_bytes,
         needs.pack_bytes,
+        needs.used,
     ];
     for (place, told) in places.iter_mut().zip(told) {
         *place = told as u64;

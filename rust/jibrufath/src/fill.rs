@@ -6,9 +6,10 @@ use crate::{Refusal, Shape};
 
 /// Gives every missing cell the bytes that the lines force, and answers the number of cells left.
 ///
-/// `cube` has [`Shape::cube_bytes`] bytes. `flags` has a byte for each cell: 0 known, 1 missing. The bytes of missing cells are
-/// not read. The cells left are the largest stopping set: a set of missing cells that meets every line in none or in at
-/// least three. They become 00h and keep flag 1; all other flags become 0. With no cell missing, the call checks the cube.
+/// `cube` has [`Shape::cube_bytes`] bytes. `flags` has a byte for each cell: 0 known, 1 missing, 2 known and unsent, whatever the cell
+/// holds. The bytes of missing cells are not read. The cells left are the largest stopping set: a set of missing cells that meets every
+/// line in none or in at least three. They become 00h and keep flag 1; the cells that are filled get flag 0, and known cells keep theirs.
+/// With no cell missing, the call checks the cube.
 ///
 /// # Errors
 ///

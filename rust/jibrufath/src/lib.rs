@@ -23,6 +23,8 @@
 //! # Ok::<(), jibrufath::Error>(())
 //! ```
 //!
+//! A short file in a big cube need not send its empty cells: [`Shape::used_by`] makes a [`Header`] that leaves them out.
+//!
 //! [`mod@text`] has the text twin of an air pack, a line for each packet, and the way back. [`plan`] has splice plans, as files and
 //! as packs whose file is one.
 //!
@@ -42,6 +44,7 @@ mod error;
 mod ffi;
 pub mod field;
 mod fill;
+mod header;
 mod mend;
 mod needs;
 mod pack;
@@ -57,6 +60,7 @@ mod write;
 pub use encode::{encode, extract, is_code_cube};
 pub use error::Error;
 pub use fill::fill;
+pub use header::Header;
 pub use mend::{mend, mend_axis};
 pub use needs::{Needs, needs};
 pub use pack::{AirPack, Packet, Packets, job_pack, packets};

@@ -47,7 +47,8 @@ pub fn mend_axis(shape: Shape, axis: usize, cube: &mut [u8]) -> Result<(), Refus
 
 /// Passes along axis 1, 2 and 3, and writes what they leave to `second`, if it is a code cube.
 ///
-/// `cube` and `second` have [`Shape::cube_bytes`] bytes, `flags` a byte for each cell, all 0. `cube` and `flags` are only read.
+/// `cube` and `second` have [`Shape::cube_bytes`] bytes, `flags` a byte for each cell, 0 known or 2 known and unsent. `cube` and `flags`
+/// are only read.
 ///
 /// # Errors
 ///

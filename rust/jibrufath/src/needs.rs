@@ -13,7 +13,7 @@ use crate::{Refusal, Shape};
 /// let needs = needs(&write(shape, b"any file")?)?;
 /// assert_eq!(needs.shape, shape);
 /// assert_eq!([needs.cells, needs.cube_bytes, needs.capacity], [60, 960, 96]);
-/// assert_eq!([needs.file_bytes, needs.pack_bytes], [92, 1157]);
+/// assert_eq!([needs.file_bytes, needs.pack_bytes, needs.used], [92, 1157, 6]);
 /// # Ok::<(), jibrufath::Error>(())
 /// ```
 #[derive(Clone, Copy, Debug, PartialEq, Eq, Hash)]
@@ -29,8 +29,10 @@ pub struct Needs {
     pub capacity: usize,
     /// The most bytes of a file, which is the length of the receiver's file buffer.
     pub file_bytes: usize,
-    /// The length of the pack that the writer writes.
+    /// The length of the pack that the writer writes: 12, the count of section 1, and 3 + W for each cell that is sent.
     pub pack_bytes: usize,
+    /// The number of data cells in use: U with count 9, all data cells with count 5.
+    pub used: usize,
 }
 
 impl Needs {
@@ -54,8 +56,8 @@ impl Needs {
 /// # Errors
 ///
 /// In the order in which section 1 is read: [`Refusal::Truncated`] (its count is cut), [`Refusal::HeaderCount`],
-/// [`Refusal::Truncated`] (the section is cut), those of [`Shape::check`], and [`Refusal::Capacity`] where a data string has no
-/// room for the file's length.
+/// [`Refusal::Truncated`] (the section is cut), those of [`Shape::check`], [`Refusal::Capacity`] where a data string has no
+/// room for the file's length, and [`Refusal::UsedCells`].
 ///
 /// ```
 /// use jibrufath::{Refusal, needs};
@@ -77,6 +79,7 @@ pub fn needs(pack: &[u8]) -> Result<Needs, Refusal> {
         capacity,
         file_bytes,
         pack_bytes,
+        used,
         ..,
     ] = places.map(|place| place as usize);
     Ok(Needs {
@@ -86,6 +89,7 @@ pub fn needs(pack: &[u8]) -> Result<Needs, Refusal> {
         capacity,
         file_bytes,
         pack_bytes,
+        used,
     })
 }
 
@@ -121,10 +125,10 @@ mod tests {
             let (_, make) = KINDS[case % KINDS.len()];
             *seen.entry(compare_places(&make(&mut random))).or_insert(0) += 1;
         }
-        for word in [0, 1, 2, 3, 6, 7, 10] {
+        for word in [0, 1, 2, 3, 6, 7, 10, 19] {
             assert!(seen[&word] > 20, "{seen:?}");
         }
-        assert_eq!(seen.len(), 7, "{seen:?}");
+        assert_eq!(seen.len(), 8, "{seen:?}");
     }
 
     #[test]
@@ -133,7 +137,7 @@ mod tests {
         for case in 0..180 {
             let (_, make) = KINDS[case % KINDS.len()];
             let whole = make(&mut random);
-            for at in 0..whole.len().min(12) {
+            for at in 0..whole.len().min(16) {
                 compare_places(&whole[..at]);
                 let mut damaged = whole.clone();
                 damaged[at] ^= random.nonzero_byte();
@@ -155,6 +159,33 @@ mod tests {
             let [low, high] = w.to_le_bytes();
             compare_places(&[5, 0, 0, 0, 3, 3, 3, low, high]);
             compare_places(&[5, 0, 0, 0, 255, 255, 9, low, high]);
+        }
+    }
+
+    #[test]
+    fn every_number_of_data_cells_in_use() {
+        // 2 by 3 by 4 data cells of 2 bytes, and one of 255 by 255 by 255 cells.
+        for used in (0..=30_u32).chain([256, 1 << 16, 1 << 24, 1 << 31, u32::MAX]) {
+            let mut pack = vec![9, 0, 0, 0, 4, 5, 6, 2, 0];
+            pack.extend(used.to_le_bytes());
+            let word = compare_places(&pack);
+            assert_eq!(word == 0, (1..=24).contains(&used), "{used}");
+        }
+        let most = 253_u32.pow(3);
+        for used in [0, 1, 65_535, 65_536, most - 1, most, most + 1] {
+            let mut pack = vec![9, 0, 0, 0, 255, 255, 255, 16, 0];
+            pack.extend(used.to_le_bytes());
+            compare_places(&pack);
+        }
+    }
+
+    #[test]
+    fn every_count_of_section_1() {
+        for count in (0..=300_u32).chain([5 << 8, 9 << 8, 5 + (1 << 24), 9 + (1 << 31)]) {
+            let mut pack = count.to_le_bytes().to_vec();
+            pack.extend([4, 5, 6, 2, 0, 24, 0, 0, 0, 0, 0, 0, 0]);
+            let word = compare_places(&pack);
+            assert_eq!(word, if count == 5 || count == 9 { 0 } else { 7 });
         }
     }
 }

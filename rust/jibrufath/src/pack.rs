@@ -1,22 +1,18 @@
 //! The layout of packs: packets read one by one, air packs built of packets, and job packs of files.
 //!
-//! A pack has three sections, each behind its count in four bytes, low first: the shape; the file; the packets.
+//! A pack has three sections, each behind its count in four bytes, low first: the shape, with or without the number of used data cells;
+//! the file; the packets.
 
 use std::iter::FusedIterator;
 use std::slice::ChunksExact;
 
 use crate::error::reserve;
+use crate::header::{MOST_SECTION, section_bytes};
 use crate::receive::read_air;
-use crate::{Error, Refusal, Shape};
+use crate::{Error, Header, Refusal, Shape};
 
 /// The bytes of a count.
 const COUNT: usize = 4;
-
-/// The bytes of section 1 with its count.
-const HEADER: usize = COUNT + 5;
-
-/// The bytes of an air pack before its packets: section 1, and the counts of sections 2 and 3.
-const HEAD: usize = HEADER + 2 * COUNT;
 
 /// The coordinates that a packet begins with.
 const COORDINATES: usize = 3;
@@ -108,7 +104,7 @@ fn packet(bytes: &[u8]) -> Packet<'_> {
 ///
 /// Those with which the receiver refuses a pack that it cannot take apart, in the order in which the pack is read:
 /// [`Refusal::Truncated`], [`Refusal::HeaderCount`], those of [`Shape::check`], [`Refusal::Capacity`],
-/// [`Refusal::SectionCount`], [`Refusal::TrailingBytes`].
+/// [`Refusal::UsedCells`], [`Refusal::SectionCount`], [`Refusal::TrailingBytes`].
 ///
 /// ```
 /// use jibrufath::{Refusal, Shape, packets, write};
@@ -123,8 +119,8 @@ fn packet(bytes: &[u8]) -> Packet<'_> {
 /// ```
 pub fn packets(air: &[u8]) -> Result<Packets<'_>, Refusal> {
     let needs = read_air(air)?;
-    let packets = air[HEAD..].chunks_exact(COORDINATES + needs.shape.w);
-    Ok(Packets(packets))
+    let packets = &air[section_bytes(air) + 2 * COUNT..];
+    Ok(Packets(packets.chunks_exact(COORDINATES + needs.shape.w)))
 }
 
 /// An air pack that is built of packets, as they are heard: at any time its bytes are a pack that the receiver takes.
@@ -148,36 +144,42 @@ pub fn packets(air: &[u8]) -> Result<Packets<'_>, Refusal> {
 /// ```
 #[derive(Clone, Debug, PartialEq, Eq)]
 pub struct AirPack {
-    shape: Shape,
+    header: Header,
     packets: u32,
     bytes: Vec<u8>,
 }
 
 impl AirPack {
-    /// The air pack without a packet.
+    /// The air pack without a packet, of a shape, or of a header with a number of used data cells.
     ///
     /// # Errors
     ///
-    /// The refusals of [`Shape::file_bytes`]; then [`Error::Allocation`].
+    /// The refusals of [`Header::needs`]; then [`Error::Allocation`].
     ///
     /// ```
     /// use jibrufath::{AirPack, Error, Refusal, Shape};
     ///
     /// let air = AirPack::new(Shape::new(3, 3, 3, 5))?;
     /// assert_eq!(air.as_bytes(), [5, 0, 0, 0, 3, 3, 3, 5, 0, 0, 0, 0, 0, 0, 0, 0, 0]);
+    /// let air = AirPack::new(Shape::new(4, 3, 3, 5).used(1))?;
+    /// assert_eq!(air.as_bytes(), [9, 0, 0, 0, 4, 3, 3, 5, 0, 1, 0, 0, 0, 0, 0, 0, 0, 0, 0, 0, 0]);
     ///
     /// let no_room = AirPack::new(Shape::new(3, 3, 3, 3));
     /// assert_eq!(no_room, Err(Error::Refused(Refusal::Capacity)));
     /// # Ok::<(), Error>(())
     /// ```
-    pub fn new(shape: Shape) -> Result<AirPack, Error> {
-        shape.file_bytes()?;
+    pub fn new(header: impl Into<Header>) -> Result<AirPack, Error> {
+        let header = header.into();
+        header.needs()?;
+        let mut section = [0; MOST_SECTION];
+        let section = header.section(&mut section)?;
+        let head = section.len() + 2 * COUNT;
         let mut bytes = Vec::new();
-        reserve(&mut bytes, HEAD)?;
-        bytes.extend(header(shape));
-        bytes.resize(HEAD, 0);
+        reserve(&mut bytes, head)?;
+        bytes.extend(section);
+        bytes.resize(head, 0);
         Ok(AirPack {
-            shape,
+            header,
             packets: 0,
             bytes,
         })
@@ -188,7 +190,7 @@ impl AirPack {
     /// # Errors
     ///
     /// In this order, and without a change: [`Refusal::SliceLength`] where the packet has not W bytes; [`Refusal::CellIndex`]
-    /// where its cell is outside the cube, with the index that the packet would have; [`Error::PacketCount`];
+    /// where its cell is outside the cube or unsent, with the index that the packet would have; [`Error::PacketCount`];
     /// [`Error::Allocation`].
     ///
     /// ```
@@ -203,10 +205,10 @@ impl AirPack {
     /// # Ok::<(), Error>(())
     /// ```
     pub fn push(&mut self, packet: Packet<'_>) -> Result<(), Error> {
-        if packet.bytes.len() != self.shape.w {
+        if packet.bytes.len() != self.header.shape.w {
             return Err(Refusal::SliceLength.into());
         }
-        if packet.cell(self.shape).is_none() {
+        if !self.header.sends(packet.coordinates) {
             let packet = u64::from(self.packets);
             return Err(Refusal::CellIndex { packet }.into());
         }
@@ -214,7 +216,8 @@ impl AirPack {
         reserve(&mut self.bytes, COORDINATES + packet.bytes.len())?;
         self.bytes.extend(packet.coordinates);
         self.bytes.extend(packet.bytes);
-        self.bytes[HEAD - COUNT..HEAD].copy_from_slice(&packets.to_le_bytes());
+        let count = section_bytes(&self.bytes) + COUNT;
+        self.bytes[count..count + COUNT].copy_from_slice(&packets.to_le_bytes());
         self.packets = packets;
         Ok(())
     }
@@ -261,12 +264,12 @@ impl AirPack {
     }
 }
 
-/// The job pack of a file, which [`write_pack`](crate::write_pack) takes.
+/// The job pack of a file, which [`write_pack`](crate::write_pack) takes: of a shape, or of a header with a number of used data cells.
 ///
 /// # Errors
 ///
-/// Those of [`Shape::check`]; then [`Refusal::Capacity`] where the file is longer than [`Shape::file_bytes`], or a data string
-/// has no room for the file's length; then [`Error::Allocation`].
+/// Those of [`Header::needs`]; then [`Refusal::Capacity`] where the file is longer than [`Shape::file_bytes`]; then
+/// [`Refusal::UsedCells`] where the used data cells have no room for the file and its length; then [`Error::Allocation`].
 ///
 /// ```
 /// use jibrufath::{Error, Refusal, Shape, job_pack};
@@ -274,26 +277,30 @@ impl AirPack {
 /// let shape = Shape::new(3, 3, 3, 5);
 /// assert_eq!(job_pack(shape, &[0x08])?, [5, 0, 0, 0, 3, 3, 3, 5, 0, 1, 0, 0, 0, 0x08, 0, 0, 0, 0]);
 /// assert_eq!(job_pack(shape, &[0; 2]), Err(Error::Refused(Refusal::Capacity)));
+///
+/// let longer = Shape::new(4, 3, 3, 5);
+/// assert_eq!(job_pack(longer.used(2), &[0; 2])?[..13], [9, 0, 0, 0, 4, 3, 3, 5, 0, 2, 0, 0, 0]);
+/// assert_eq!(job_pack(longer.used(1), &[0; 2]), Err(Error::Refused(Refusal::UsedCells)));
 /// # Ok::<(), Error>(())
 /// ```
-pub fn job_pack(shape: Shape, file: &[u8]) -> Result<Vec<u8>, Error> {
-    if file.len() > shape.file_bytes()? {
+pub fn job_pack(header: impl Into<Header>, file: &[u8]) -> Result<Vec<u8>, Error> {
+    let header = header.into();
+    let needs = header.needs()?;
+    if file.len() > needs.file_bytes {
         return Err(Refusal::Capacity.into());
     }
+    if needs.used * needs.shape.w < COUNT + file.len() {
+        return Err(Refusal::UsedCells.into());
+    }
+    let mut section = [0; MOST_SECTION];
+    let section = header.section(&mut section)?;
     let mut pack = Vec::new();
-    reserve(&mut pack, HEADER + COUNT + file.len() + COUNT)?;
-    pack.extend(header(shape));
+    reserve(&mut pack, section.len() + COUNT + file.len() + COUNT)?;
+    pack.extend(section);
     pack.extend((file.len() as u32).to_le_bytes());
     pack.extend(file);
     pack.extend([0; COUNT]);
     Ok(pack)
-}
-
-/// Section 1 with its count, for a shape that passes its checks.
-fn header(shape: Shape) -> [u8; HEADER] {
-    let [l1, l2, l3] = [shape.l1, shape.l2, shape.l3].map(|length| length as u8);
-    let [low, high] = (shape.w as u16).to_le_bytes();
-    [5, 0, 0, 0, l1, l2, l3, low, high]
 }
 
 #[cfg(test)]

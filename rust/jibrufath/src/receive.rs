@@ -2,6 +2,7 @@
 
 use crate::error::zeros;
 use crate::ffi::jibrufath_receive_pack;
+use crate::header::says_used;
 use crate::refusal::answer;
 use crate::{Error, Needs, Refusal, needs};
 
@@ -85,6 +86,8 @@ impl Received {
 /// `file` [`Needs::file_bytes`]. What they hold before does not matter. Afterwards the cube and the flags stand as
 /// [`fill`](crate::fill) leaves them. A file changes only the bytes of `file` that it needs, and cells left change none.
 ///
+/// Where the pack says how many data cells are used, the others are known from the start: they are 00h, with flag 2.
+///
 /// Packets come in any order, each any number of times. A cell is known where its copies are all equal. Copies that differ make
 /// their cell missing, whichever came first, and no further copy makes it known again; like any other missing cell it is filled
 /// where the lines force its bytes.
@@ -92,11 +95,11 @@ impl Received {
 /// # Errors
 ///
 /// In the order in which the pack is read: [`Refusal::Truncated`], [`Refusal::HeaderCount`], those of
-/// [`Shape::check`](crate::Shape::check), [`Refusal::Capacity`], [`Refusal::SectionCount`], [`Refusal::TrailingBytes`]; then
-/// [`Refusal::SliceLength`] and [`Refusal::CellIndex`]. All these change no byte. Then:
+/// [`Shape::check`](crate::Shape::check), [`Refusal::Capacity`], [`Refusal::UsedCells`], [`Refusal::SectionCount`],
+/// [`Refusal::TrailingBytes`]; then [`Refusal::SliceLength`] and [`Refusal::CellIndex`]. All these change no byte. Then:
 ///
-/// - [`Refusal::Contradiction`], with the known cells placed, missing cells 00h and their flags 1; copies that are all equal and
-///   all wrong may lead to it;
+/// - [`Refusal::Contradiction`], with the known cells placed, missing cells 00h and their flags 1, unsent cells 00h and their flags 2;
+///   copies that are all equal and all wrong may lead to it;
 /// - [`Refusal::FileLength`], with the cube and the flags as filled.
 ///
 /// No refusal changes a byte of `file`.
@@ -198,7 +201,7 @@ pub enum Reception<F = Vec<u8>> {
     Left {
         /// The number of cells left.
         cells: usize,
-        /// A byte for each cell, 1 where it is left, else 0.
+        /// A byte for each cell: 1 where it is left, 2 where it is unsent, else 0.
         flags: Vec<u8>,
         /// The packets of the pack.
         packets: u64,
@@ -280,11 +283,16 @@ impl<F> Reception<F> {
     }
 }
 
-/// The memory that [`receive`] takes for a pack at most: 28 times the pack's bytes, and 1 MiB for a pack however short.
+/// The memory that [`receive`] takes for a pack at most: 28 times the pack's bytes, 80 times where the pack says how many data cells are
+/// used, and 1 MiB for a pack however short.
 ///
-/// A pack that gives a file has at least as many packets as its cube has data cells, since fewer known cells never determine
-/// them. Of any cube a 27th or more are data cells. So cube, flags and file take less than 28 times the bytes of such a pack: what
-/// the limit keeps out are packs that would end in cells left or in a refusal.
+/// A pack that gives a file has at least as many packets as its cube has used data cells, since fewer known cells never determine
+/// them. Where all are used, they are a 27th or more of any cube. So cube, flags and file take less than 28 times the bytes of such a
+/// pack: what the limit keeps out are packs that would end in cells left or in a refusal.
+///
+/// Where few data cells are used, a few packets may be enough for a cube of any size, and no limit tells these packs from others. A pack
+/// with every packet that is sent never takes 80 times its bytes. For one that lost most of them in a big cube, [`receive_within`] takes
+/// a larger limit.
 ///
 /// ```
 /// use jibrufath::default_limit;
@@ -293,9 +301,9 @@ impl<F> Reception<F> {
 /// assert_eq!(default_limit(&[0; 100_000]), 2_800_000);
 /// ```
 pub fn default_limit(air: &[u8]) -> usize {
-    const TIMES: usize = 28;
     const LEAST: usize = 1 << 20;
-    air.len().saturating_mul(TIMES).max(LEAST)
+    let times = if says_used(air) { 80 } else { 28 };
+    air.len().saturating_mul(times).max(LEAST)
 }
 
 /// Receives an air pack: [`receive_pack`] with memory of its own, at most [`default_limit`].

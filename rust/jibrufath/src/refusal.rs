@@ -23,11 +23,11 @@ pub enum Refusal {
     CubeSize,
     /// 4: a lent slice has not the exact length; a list of a plan is too short, or ends inside an entry.
     SliceLength,
-    /// 5: a flag is neither 0 nor 1.
+    /// 5: a flag is above 2.
     FlagValue,
     /// 6: the pack ends inside a count or a section.
     Truncated,
-    /// 7: the count of section 1 is not 5.
+    /// 7: the count of section 1 is neither 5 nor 9; where a text is written, it is not 5.
     HeaderCount,
     /// 8: the pack has bytes after section 3.
     TrailingBytes,
@@ -35,7 +35,7 @@ pub enum Refusal {
     SectionCount,
     /// 10: the data string has no room for the file, or not even for the four bytes of its length.
     Capacity,
-    /// 11: a packet names a cell outside the cube.
+    /// 11: a packet names a cell outside the cube, or one that is unsent.
     CellIndex {
         /// The packet's index, from 0.
         packet: u64,
@@ -58,6 +58,9 @@ pub enum Refusal {
         /// Where it begins in the plan's file, from 0.
         offset: u64,
     },
+    /// 19: the number of used data cells is below 1 or above the number of data cells; in the writer also where they have no room for
+    /// the file and its length.
+    UsedCells,
 }
 
 impl Refusal {
@@ -85,6 +88,7 @@ impl Refusal {
             Refusal::Uncorrected => 16,
             Refusal::Line { .. } => 17,
             Refusal::Entry { .. } => 18,
+            Refusal::UsedCells => 19,
         }
     }
 
@@ -153,6 +157,7 @@ impl Refusal {
             16 => Refusal::Uncorrected,
             17 => Refusal::Line { line: place },
             18 => Refusal::Entry { offset: place },
+            19 => Refusal::UsedCells,
             _ => panic!("the library answers with numbers of the table"),
         }
     }
@@ -167,13 +172,17 @@ impl fmt::Display for Refusal {
             Refusal::PacketSize => "W is not 1 to 1,024",
             Refusal::CubeSize => "W × cells is above 268,435,456",
             Refusal::SliceLength => "a lent slice has not the exact length",
-            Refusal::FlagValue => "a flag is neither 0 nor 1",
+            Refusal::FlagValue => "a flag is above 2",
             Refusal::Truncated => "the pack ends inside a count or a section",
-            Refusal::HeaderCount => "the count of section 1 is not 5",
+            Refusal::HeaderCount => {
+                "the count of section 1 is neither 5 nor 9, or not 5 for a text"
+            }
             Refusal::TrailingBytes => "the pack has bytes after section 3",
             Refusal::SectionCount => "the section that must be empty is not",
             Refusal::Capacity => "the data string has no room for the file",
-            Refusal::CellIndex { .. } => "a packet names a cell outside the cube",
+            Refusal::CellIndex { .. } => {
+                "a packet names a cell outside the cube, or one that is unsent"
+            }
             Refusal::Contradiction => "the known cells contradict each other",
             Refusal::FileLength => "the data string holds no file",
             Refusal::Erasure => "a cell is flagged missing",
@@ -181,6 +190,9 @@ impl fmt::Display for Refusal {
             Refusal::Line { .. } => "a line of the text breaks the form",
             Refusal::Entry { .. } => {
                 "an entry or count of the plan breaks a rule or is cut, or bytes are left over"
+            }
+            Refusal::UsedCells => {
+                "the used data cells are none, more than there are, or too few for the file"
             }
         };
         write!(f, "refused {}: {meaning}", self.number())?;
@@ -213,7 +225,7 @@ mod tests {
     fn answers() {
         assert_eq!(answer(0), Ok(0));
         assert_eq!(answer(27 * 256), Ok(27));
-        for number in (1..=11).chain(13..=18u8) {
+        for number in (1..=11).chain(13..=19u8) {
             let refusal = answer(u64::from(number) + 7 * 256).unwrap_err();
             assert_eq!(refusal.number(), number);
             assert_eq!(refusal.packet(), (number == 11).then_some(7));
@@ -233,7 +245,7 @@ mod tests {
         for (refusal, told) in [
             (
                 Refusal::CellIndex { packet: 7 },
-                "refused 11: a packet names a cell outside the cube, packet 7",
+                "refused 11: a packet names a cell outside the cube, or one that is unsent, packet 7",
             ),
             (
                 Refusal::Line { line: 3 },

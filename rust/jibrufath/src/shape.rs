@@ -2,7 +2,7 @@
 
 use crate::ffi::{jibrufath_capacity, jibrufath_cells, jibrufath_cube_bytes, jibrufath_pack_bytes};
 use crate::refusal::answer;
-use crate::{Refusal, needs};
+use crate::{Header, Refusal, needs};
 
 /// The bytes of the file's length, which begins a data string.
 const LENGTH_BYTES: usize = 4;
@@ -60,6 +60,41 @@ impl Shape {
     /// ```
     pub fn of_pack(pack: &[u8]) -> Result<Shape, Refusal> {
         needs(pack).map(|needs| needs.shape)
+    }
+
+    /// The header of packs of this shape in which so many data cells are used, not yet checked: the data cells from that one on, counted
+    /// from 0 in cell order, are 00h, known to the receiver from the start, and never sent.
+    ///
+    /// ```
+    /// use jibrufath::{Shape, receive, write};
+    ///
+    /// // 2,592 data cells, of which two have room for 196 bytes and their length.
+    /// let shape = Shape::new(20, 20, 10, 100);
+    /// let file = [0x5A; 196];
+    /// let pack = write(shape.used(2), &file)?;
+    /// assert_eq!([pack.len(), shape.pack_bytes()?], [145_251, 412_017]);
+    /// assert_eq!(receive(&pack)?.into_file().as_deref(), Some(&file[..]));
+    /// # Ok::<(), jibrufath::Error>(())
+    /// ```
+    pub const fn used(self, used: usize) -> Header {
+        Header {
+            shape: self,
+            used: Some(used),
+        }
+    }
+
+    /// The header of packs of this shape for a file of so many bytes: the fewest used data cells that have room for it and its length.
+    ///
+    /// ```
+    /// use jibrufath::Shape;
+    ///
+    /// let shape = Shape::new(5, 4, 3, 16);
+    /// assert_eq!(shape.used_by(12), shape.used(1));
+    /// assert_eq!(shape.used_by(13), shape.used(2));
+    /// ```
+    pub fn used_by(self, file_bytes: usize) -> Header {
+        let bytes = file_bytes.saturating_add(LENGTH_BYTES);
+        self.used(bytes.div_ceil(self.w.max(1)))
     }
 
     /// Checks the numbers.
@@ -136,7 +171,7 @@ impl Shape {
             .ok_or(Refusal::Capacity)
     }
 
-    /// The length of a written pack: 17 + cells × (3 + W).
+    /// The length of a written pack that has every cell: 17 + cells × (3 + W). [`Header::pack_bytes`] has it where cells are unsent.
     ///
     /// # Errors
     ///

@@ -36,7 +36,8 @@ use crate::{Error, Refusal};
 ///
 /// In the order in which the pack is read: [`Refusal::Truncated`], [`Refusal::HeaderCount`], those of
 /// [`Shape::check`](crate::Shape::check), [`Refusal::Capacity`], [`Refusal::SectionCount`], [`Refusal::TrailingBytes`]; then
-/// [`Refusal::SliceLength`] and [`Refusal::CellIndex`]. A refusal changes no byte.
+/// [`Refusal::SliceLength`] and [`Refusal::CellIndex`]. A refusal changes no byte. A text has no place for a number of used data cells, so
+/// that a pack which says it is refused with [`Refusal::HeaderCount`].
 ///
 /// ```
 /// use jibrufath::text::{text_bytes, write_text};

@@ -3,18 +3,20 @@
 use crate::error::zeros;
 use crate::ffi::jibrufath_write_pack;
 use crate::refusal::answer;
-use crate::{Error, Refusal, Shape, job_pack};
+use crate::{Error, Header, Refusal, job_pack, needs};
 
-/// Turns a job pack, which holds a file, into the pack of every packet of the file's code cube, in cell order.
+/// Turns a job pack, which holds a file, into the pack of the packets of the file's code cube, in cell order: of every cell, or of
+/// those that are sent where the pack says how many data cells are used. Section 1 is kept as it is.
 ///
-/// `cube` has [`Shape::cube_bytes`] bytes and holds the code cube afterwards; `output` has [`Shape::pack_bytes`]. What they held
-/// before does not matter. [`job_pack`] makes a job pack of a file.
+/// The lent slices have the lengths that [`needs`] gives for the pack: `cube` [`Needs::cube_bytes`](crate::Needs::cube_bytes), which
+/// holds the code cube afterwards, and `output` [`Needs::pack_bytes`](crate::Needs::pack_bytes). What they held before does not matter.
+/// [`job_pack`] makes a job pack of a file.
 ///
 /// # Errors
 ///
-/// In the order in which the pack is read: [`Refusal::Truncated`], [`Refusal::HeaderCount`], those of [`Shape::check`],
-/// [`Refusal::Capacity`], [`Refusal::SectionCount`], [`Refusal::TrailingBytes`]; then [`Refusal::SliceLength`]. A refusal changes
-/// no byte.
+/// In the order in which the pack is read: [`Refusal::Truncated`], [`Refusal::HeaderCount`], those of
+/// [`Shape::check`](crate::Shape::check), [`Refusal::Capacity`], [`Refusal::UsedCells`], [`Refusal::SectionCount`],
+/// [`Refusal::TrailingBytes`]; then [`Refusal::SliceLength`]. A refusal changes no byte.
 ///
 /// ```
 /// use jibrufath::{Refusal, Shape, job_pack, packets, write_pack};
@@ -48,12 +50,12 @@ pub fn write_pack(job: &[u8], cube: &mut [u8], output: &mut [u8]) -> Result<(), 
     answer(word).map(|_| ())
 }
 
-/// The pack of all packets of a file: [`write_pack`] with memory of its own.
+/// The pack of all packets of a file: [`write_pack`] with memory of its own. Given a [`Shape`](crate::Shape), every cell is sent; given
+/// a [`Header`], those that it sends.
 ///
 /// # Errors
 ///
-/// Those of [`Shape::check`]; then [`Refusal::Capacity`] where the file is longer than [`Shape::file_bytes`], or a data string has
-/// no room for the file's length; then [`Error::Allocation`].
+/// As [`job_pack`].
 ///
 /// ```
 /// use jibrufath::{Error, Refusal, Shape, receive, write};
@@ -66,10 +68,26 @@ pub fn write_pack(job: &[u8], cube: &mut [u8], output: &mut [u8]) -> Result<(), 
 /// assert_eq!(write(shape, &[0; 93]), Err(Error::Refused(Refusal::Capacity)));
 /// # Ok::<(), Error>(())
 /// ```
-pub fn write(shape: Shape, file: &[u8]) -> Result<Vec<u8>, Error> {
-    let job = job_pack(shape, file)?;
-    let mut cube = zeros(shape.cube_bytes()?)?;
-    let mut output = zeros(shape.pack_bytes()?)?;
+///
+/// A file that leaves data cells empty, without packets for them:
+///
+/// ```
+/// use jibrufath::{Error, Refusal, Shape, receive, write};
+///
+/// let header = Shape::new(5, 4, 3, 16).used_by(6);
+/// let pack = write(header, b"packet")?;
+/// assert_eq!(pack.len(), header.pack_bytes()?);
+/// assert_eq!(receive(&pack)?.into_file().as_deref(), Some(&b"packet"[..]));
+///
+/// // The one cell in use has room for 12 bytes and their length.
+/// assert_eq!(write(header, &[0; 13]), Err(Error::Refused(Refusal::UsedCells)));
+/// # Ok::<(), Error>(())
+/// ```
+pub fn write(header: impl Into<Header>, file: &[u8]) -> Result<Vec<u8>, Error> {
+    let job = job_pack(header, file)?;
+    let needs = needs(&job)?;
+    let mut cube = zeros(needs.cube_bytes)?;
+    let mut output = zeros(needs.pack_bytes)?;
     write_pack(&job, &mut cube, &mut output)?;
     Ok(output)
 }

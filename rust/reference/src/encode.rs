@@ -18,7 +18,7 @@ pub fn encode(shape: Shape, data: &[u8], cube: &mut [u8]) -> Result<(), u8> {
 /// Reads the data string of a cube, whether or not that is a code cube.
 pub fn extract(shape: Shape, cube: &[u8], data: &mut [u8]) -> Result<(), u8> {
     check(shape, data.len(), cube.len())?;
-    for (cell, packet) in data_cells(shape).zip(data.chunks_mut(shape.w)) {
+    for (cell, packet) in shape.data_cells().zip(data.chunks_mut(shape.w)) {
         packet.copy_from_slice(&cube[shape.bytes(cell)]);
     }
     Ok(())
@@ -41,12 +41,8 @@ fn check(shape: Shape, data_len: usize, cube_len: usize) -> Result<(), u8> {
     Ok(())
 }
 
-fn data_cells(shape: Shape) -> impl Iterator<Item = usize> {
-    (0..shape.cells()).filter(move |&cell| shape.is_data(cell))
-}
-
 fn place_data(shape: Shape, data: &[u8], cube: &mut [u8]) {
-    for (cell, packet) in data_cells(shape).zip(data.chunks(shape.w)) {
+    for (cell, packet) in shape.data_cells().zip(data.chunks(shape.w)) {
         cube[shape.bytes(cell)].copy_from_slice(packet);
     }
 }

@@ -18,7 +18,7 @@ pub fn fill(shape: Shape, cube: &mut [u8], flags: &mut [u8]) -> Result<usize, u8
     if cube.len() != shape.cube_bytes() || flags.len() != shape.cells() {
         return Err(4);
     }
-    if flags.iter().any(|&flag| flag > 1) {
+    if flags.iter().any(|&flag| flag > 2) {
         return Err(5);
     }
     let missing: Vec<bool> = flags.iter().map(|&flag| flag == 1).collect();
@@ -36,7 +36,8 @@ pub fn fill(shape: Shape, cube: &mut [u8], flags: &mut [u8]) -> Result<usize, u8
         return Err(13);
     };
     cube.copy_from_slice(&filled);
-    for (flag, &stuck) in flags.iter_mut().zip(&stuck) {
+    // Known cells keep 0 or 2.
+    for (flag, &stuck) in flags.iter_mut().zip(&stuck).filter(|(flag, _)| **flag == 1) {
         *flag = u8::from(stuck);
     }
     Ok(stuck.iter().filter(|&&stuck| stuck).count())
@@ -183,6 +184,41 @@ mod tests {
         };
         let mut flags: Vec<u8> = (0..48).map(differ).collect();
         assert_eq!(fill(wider, &mut [0; 48], &mut flags), Ok(36));
+    }
+
+    /// Flag 2 is known, whatever the cell holds, and is kept: with a filling, with cells left and without a filling.
+    #[test]
+    fn unsent_cells_are_known() {
+        let shape = Shape::new(3, 3, 3, 1);
+        let mut cube = vec![0xAA; 27];
+        cube[26] = 0x01;
+        let mut flags = [1; 27];
+        flags[26] = 2;
+        assert_eq!(fill(shape, &mut cube, &mut flags), Ok(0));
+        assert_eq!((cube, flags[26]), (first_cube(), 2));
+        assert_eq!(flags[..26], [0; 26]);
+
+        // A right plane of 9 known cells beside 27 missing ones.
+        let wider = Shape::new(4, 3, 3, 1);
+        let plane = |cell: usize| (cell % 4 == 1).then(|| first_cube()[cell / 4]);
+        let mut cube: Vec<u8> = (0..36).map(|cell| plane(cell).unwrap_or(0xAA)).collect();
+        let before: Vec<u8> = (0..36)
+            .map(|cell| 1 + u8::from(plane(cell).is_some()))
+            .collect();
+        let mut flags = before.clone();
+        assert_eq!(fill(wider, &mut cube, &mut flags), Ok(27));
+        assert_eq!(flags, before);
+        assert!((0..36).all(|cell| cube[cell] == plane(cell).unwrap_or(0x00)));
+
+        let mut cube = first_cube();
+        cube[26] = 0x00;
+        let mut flags = [2; 27];
+        flags[0] = 1;
+        assert_eq!(fill(shape, &mut cube, &mut flags), Err(13));
+        assert_eq!((cube[0], flags[0], flags[26]), (0, 1, 2));
+
+        flags[1] = 3;
+        assert_eq!(fill(shape, &mut cube, &mut flags), Err(5));
     }
 
     #[test]

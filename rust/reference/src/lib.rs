@@ -2,8 +2,8 @@
 //!
 //! It is made to be compared with, so it takes other ways than the library where it can: log tables for
 //! the field, linear equations for encoding and filling small cubes, another order of axes for encoding
-//! large ones, a work list for filling them, a map of the copies that were heard of each cell, texts split into words,
-//! plans judged by sets of what stands before each entry.
+//! large ones, a work list for filling them, a map of the copies that were heard of each cell,
+//! unsent cells taken from the list of all data cells, texts split into words, plans judged by sets of what stands before each entry.
 //! Clarity comes before speed.
 //!
 //! Each operation answers `Err(number)` with the number of document 01's table, and leaves lent memory
@@ -12,6 +12,7 @@
 pub mod encode;
 pub mod field;
 pub mod fill;
+pub mod header;
 pub mod linear;
 pub mod mend;
 pub mod pack;
@@ -27,6 +28,7 @@ pub mod write;
 
 pub use encode::{encode, extract, is_code_cube};
 pub use fill::fill;
+pub use header::Header;
 pub use mend::{mend, mend_axis};
 pub use pack::needs;
 pub use plan::{measure_plan, read_plan, receive_plan, write_plan};

@@ -33,7 +33,7 @@ pub fn mend(shape: Shape, cube: &[u8], flags: &[u8], second: &mut [u8]) -> Resul
     if cube.len() != bytes || flags.len() != shape.cells() || second.len() != bytes {
         return Err(4);
     }
-    if flags.iter().any(|&flag| flag > 1) {
+    if flags.iter().any(|&flag| flag > 2) {
         return Err(5);
     }
     if flags.contains(&1) {
@@ -68,6 +68,8 @@ mod tests {
         let mut second = [0xAA; 27];
         assert_eq!(mend(shape, &wrong, &[0; 27], &mut second), Ok(()));
         assert_eq!((second, second[13]), (right, 0x0F));
+
+        assert_eq!(mend(shape, &wrong, &[2; 27], &mut second), Ok(()));
 
         assert_eq!(place_of_error(0x01, 0x08, 3), None);
         assert_eq!(place_of_error(0x01, 0x08, 4), Some(3));

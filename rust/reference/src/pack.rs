@@ -1,6 +1,6 @@
 //! Packs: three sections, each after its count, as the writer and the receiver read them.
 
-use crate::Shape;
+use crate::{Header, Shape};
 
 /// The bytes of a count, and of the file's length that begins the data string.
 pub const COUNT: usize = 4;
@@ -8,14 +8,14 @@ pub const COUNT: usize = 4;
 /// A pack for the writer: its section 2 is a file, its section 3 is empty.
 #[derive(Debug, PartialEq, Eq)]
 pub struct Job<'a> {
-    pub shape: Shape,
+    pub header: Header,
     pub file: &'a [u8],
 }
 
 /// A pack for the receiver: its section 2 is empty, its section 3 holds packets.
 #[derive(Debug, PartialEq, Eq)]
 pub struct Air<'a> {
-    pub shape: Shape,
+    pub header: Header,
     pub packets: Vec<Packet<'a>>,
 }
 
@@ -27,21 +27,23 @@ pub struct Packet<'a> {
 }
 
 /// Reads section 1 of a pack, as the writer and the receiver do.
-pub fn read_shape(pack: &[u8]) -> Result<Shape, u8> {
-    Rest(pack).shape()
+pub fn read_header(pack: &[u8]) -> Result<Header, u8> {
+    Rest(pack).header()
 }
 
 /// What a pack's calls are lent, by section 1 alone: the shape, cells, the bytes of a cube, of a data string, of a file buffer
-/// and of a written pack, then zeros.
+/// and of a written pack, the data cells in use, then zeros.
 pub fn needs(pack: &[u8]) -> Result<[u64; 16], u8> {
-    let shape = read_shape(pack)?;
+    let header = read_header(pack)?;
+    let shape = header.shape;
     let [l1, l2, l3] = shape.lengths;
     let sizes = [
         shape.cells(),
         shape.cube_bytes(),
         shape.capacity(),
         shape.file_bytes(),
-        shape.pack_bytes(),
+        header.pack_bytes(),
+        header.used_cells(),
     ];
     let mut needs = [0; 16];
     for (place, number) in [l1, l2, l3, shape.w].into_iter().chain(sizes).enumerate() {
@@ -53,36 +55,40 @@ pub fn needs(pack: &[u8]) -> Result<[u64; 16], u8> {
 /// Reads a pack as the writer does.
 pub fn read_job(pack: &[u8]) -> Result<Job<'_>, u8> {
     let mut rest = Rest(pack);
-    let shape = rest.shape()?;
+    let header = rest.header()?;
     let count = rest.count()?;
-    if count > shape.file_bytes() as u64 {
+    if count > header.shape.file_bytes() as u64 {
         return Err(10);
+    }
+    if ((header.used_cells() * header.shape.w) as u64) < COUNT as u64 + count {
+        return Err(19);
     }
     let file = rest.take(count)?;
     if rest.count()? != 0 {
         return Err(9);
     }
     rest.end()?;
-    Ok(Job { shape, file })
+    Ok(Job { header, file })
 }
 
 /// Reads a pack as the receiver does.
 pub fn read_air(pack: &[u8]) -> Result<Air<'_>, u8> {
     let mut rest = Rest(pack);
-    let shape = rest.shape()?;
+    let header = rest.header()?;
     if rest.count()? != 0 {
         return Err(9);
     }
     let packets = rest.count()?;
-    let section = rest.take(packets * shape.packet_bytes() as u64)?;
+    let size = header.shape.packet_bytes();
+    let section = rest.take(packets * size as u64)?;
     rest.end()?;
-    let packets = section.chunks(shape.packet_bytes()).map(|packet| {
+    let packets = section.chunks(size).map(|packet| {
         let (place, bytes) = packet.split_at(3);
         let place = place.try_into().expect("three coordinates");
         Packet { place, bytes }
     });
     Ok(Air {
-        shape,
+        header,
         packets: packets.collect(),
     })
 }
@@ -104,16 +110,13 @@ impl<'a> Rest<'a> {
         self.take(COUNT as u64).map(number)
     }
 
-    /// Section 1: a good shape, whose data string has room for the file's length.
-    fn shape(&mut self) -> Result<Shape, u8> {
-        if self.count()? != 5 {
+    /// Section 1: a good shape, whose data string has room for the file's length, and a good number of data cells in use.
+    fn header(&mut self) -> Result<Header, u8> {
+        let count = self.count()?;
+        if count != 5 && count != 9 {
             return Err(7);
         }
-        let section = self.take(5)?;
-        let [l1, l2, l3] = [0, 1, 2].map(|axis| usize::from(section[axis]));
-        let shape = Shape::new(l1, l2, l3, number(&section[3..]) as usize);
-        shape.check_room()?;
-        Ok(shape)
+        Header::of_section(self.take(count)?)
     }
 
     fn end(self) -> Result<(), u8> {
@@ -129,11 +132,11 @@ pub(crate) fn number(bytes: &[u8]) -> u64 {
         .fold(0, |high, &byte| 256 * high + u64::from(byte))
 }
 
-/// The pack of this shape, file and packets. The lengths fit in a byte and W in two.
-pub fn pack(shape: Shape, file: &[u8], packets: &[Packet]) -> Vec<u8> {
-    let mut pack = count(5).to_vec();
-    pack.extend(shape.lengths.map(|length| length as u8));
-    pack.extend((shape.w as u16).to_le_bytes());
+/// The pack of this header, file and packets. The lengths fit in a byte, W in two and U in four.
+pub fn pack(header: impl Into<Header>, file: &[u8], packets: &[Packet]) -> Vec<u8> {
+    let section = header.into().section();
+    let mut pack = count(section.len()).to_vec();
+    pack.extend(section);
     pack.extend(count(file.len()));
     pack.extend(file);
     pack.extend(count(packets.len()));
@@ -165,8 +168,15 @@ mod tests {
 
     const SHAPE: [u8; 9] = [5, 0, 0, 0, 3, 3, 3, 5, 0];
 
+    /// 4 by 3 by 3 cells of 5 bytes, of which the first of two data cells is in use.
+    const USED: [u8; 13] = [9, 0, 0, 0, 4, 3, 3, 5, 0, 1, 0, 0, 0];
+
     fn with(rest: &[u8]) -> Vec<u8> {
         [&SHAPE, rest].concat()
+    }
+
+    fn used_with(rest: &[u8]) -> Vec<u8> {
+        [&USED, rest].concat()
     }
 
     #[test]
@@ -178,32 +188,38 @@ mod tests {
 
     #[test]
     fn whole_packs() {
-        let shape = Shape::new(3, 3, 3, 5);
-        let job = pack(shape, &[0x08], &[]);
-        assert_eq!(job, with(&[1, 0, 0, 0, 0x08, 0, 0, 0, 0]));
         let file: &[u8] = &[0x08];
-        assert_eq!(read_job(&job), Ok(Job { shape, file }));
-
         let bytes: &[u8] = &[1, 2, 3, 4, 5];
-        let packets = vec![Packet {
-            place: [2, 1, 255],
-            bytes,
-        }];
-        let air = pack(shape, &[], &packets);
-        assert_eq!(
-            air,
-            with(&[0, 0, 0, 0, 1, 0, 0, 0, 2, 1, 255, 1, 2, 3, 4, 5])
-        );
-        assert_eq!(read_air(&air), Ok(Air { shape, packets }));
+        let place = [2, 1, 255];
+        for (header, section) in [
+            (Shape::new(3, 3, 3, 5).into(), &SHAPE[..]),
+            (Shape::new(4, 3, 3, 5).used(1), &USED),
+        ] {
+            let job = pack(header, file, &[]);
+            let behind = [1, 0, 0, 0, 0x08, 0, 0, 0, 0];
+            assert_eq!(job, [section, &behind].concat());
+            assert_eq!(read_job(&job), Ok(Job { header, file }));
+
+            let packets = vec![Packet { place, bytes }];
+            let air = pack(header, &[], &packets);
+            let behind = [0, 0, 0, 0, 1, 0, 0, 0, 2, 1, 255, 1, 2, 3, 4, 5];
+            assert_eq!(air, [section, &behind].concat());
+            assert_eq!(read_air(&air), Ok(Air { header, packets }));
+        }
     }
 
     #[test]
     fn what_a_pack_needs() {
-        let needed = [3, 3, 3, 5, 27, 135, 5, 1, 233, 0, 0, 0, 0, 0, 0, 0];
-        assert_eq!(needs(&SHAPE), Ok(needed));
-        assert_eq!(needs(&with(&[0xFF; 100])), Ok(needed));
-        for len in 0..9 {
-            assert_eq!(needs(&SHAPE[..len]), Err(6));
+        for (section, needed) in [
+            (&SHAPE[..], [3, 3, 3, 5, 27, 135, 5, 1, 233, 1]),
+            (&USED, [4, 3, 3, 5, 36, 180, 10, 6, 21 + 35 * 8, 1]),
+        ] {
+            let needed = [&needed[..], &[0; 6]].concat().try_into();
+            assert_eq!(needs(section), needed.map_err(|_| 0));
+            assert_eq!(needs(&[section, &[0xFF; 100]].concat()), needs(section));
+            for len in 0..section.len() {
+                assert_eq!(needs(&section[..len]), Err(6));
+            }
         }
     }
 
@@ -215,11 +231,19 @@ mod tests {
             (vec![5, 0, 0], 6, 6),
             (vec![4, 0, 0, 0], 7, 7),
             (vec![5, 0, 0, 1], 7, 7),
+            (vec![9, 0, 1, 0], 7, 7),
             (vec![5, 0, 0, 0, 2, 3, 3, 5], 6, 6),
+            (vec![9, 0, 0, 0, 2, 3, 3, 5, 0, 1, 0, 0], 6, 6),
             (vec![5, 0, 0, 0, 2, 3, 3, 0, 0], 1, 1),
             (vec![5, 0, 0, 0, 3, 3, 3, 0, 0], 2, 2),
             (vec![5, 0, 0, 0, 255, 255, 65, 0xF9, 3], 3, 3),
             (vec![5, 0, 0, 0, 3, 3, 3, 3, 0], 10, 10),
+            (vec![9, 0, 0, 0, 2, 3, 3, 0, 0, 0, 0, 0, 0], 1, 1),
+            (vec![9, 0, 0, 0, 3, 3, 3, 0, 0, 0, 0, 0, 0], 2, 2),
+            (vec![9, 0, 0, 0, 255, 255, 65, 0xF9, 3, 0, 0, 0, 0], 3, 3),
+            (vec![9, 0, 0, 0, 3, 3, 3, 3, 0, 0, 0, 0, 0], 10, 10),
+            (vec![9, 0, 0, 0, 3, 3, 3, 5, 0, 0, 0, 0, 0], 19, 19),
+            (vec![9, 0, 0, 0, 3, 3, 3, 5, 0, 2, 0, 0, 0], 19, 19),
             (with(&[0xFF; 3]), 6, 6),
             (with(&[0xFF; 4]), 10, 9),
             (with(&[2, 0, 0, 0]), 10, 9),
@@ -228,6 +252,15 @@ mod tests {
             (with(&[0, 0, 0, 0, 1, 0, 0, 0]), 9, 6),
             (with(&[0, 0, 0, 0, 0, 0, 0, 0x20]), 9, 6),
             (with(&[0; 9]), 8, 8),
+            // A file has room for 6 bytes, and the cell in use for 1 of them.
+            (used_with(&[0xFF; 3]), 6, 6),
+            (used_with(&[7, 0, 0, 0]), 10, 9),
+            (used_with(&[6, 0, 0, 0]), 19, 9),
+            (used_with(&[2, 0, 0, 0]), 19, 9),
+            (used_with(&[1, 0, 0, 0]), 6, 9),
+            (used_with(&[0; 7]), 6, 6),
+            (used_with(&[0, 0, 0, 0, 1, 0, 0, 0]), 9, 6),
+            (used_with(&[0; 9]), 8, 8),
         ] {
             assert_eq!(read_job(&pack).err(), Some(writer), "{pack:?}");
             assert_eq!(read_air(&pack).err(), Some(receiver), "{pack:?}");

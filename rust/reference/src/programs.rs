@@ -13,15 +13,16 @@ pub fn write(input: &[u8]) -> Vec<u8> {
     if input.len() > MOST_BYTES {
         return TOO_BIG.into();
     }
-    let shape = match read_job(input) {
+    let header = match read_job(input) {
         Err(number) => return refused(number),
-        Ok(job) => job.shape,
+        Ok(job) => job.header,
     };
-    if shape.cube_bytes() > MOST_BYTES || shape.pack_bytes() > MOST_BYTES {
+    let [cube_bytes, pack_bytes] = [header.shape.cube_bytes(), header.pack_bytes()];
+    if cube_bytes > MOST_BYTES || pack_bytes > MOST_BYTES {
         return TOO_BIG.into();
     }
-    let mut cube = vec![0; shape.cube_bytes()];
-    let mut output = vec![0; shape.pack_bytes()];
+    let mut cube = vec![0; cube_bytes];
+    let mut output = vec![0; pack_bytes];
     match write_pack(input, &mut cube, &mut output) {
         Err(number) => refused(number),
         Ok(()) => output,
@@ -35,7 +36,7 @@ pub fn receive(input: &[u8]) -> Vec<u8> {
     }
     let shape = match read_air(input) {
         Err(number) => return refused(number),
-        Ok(air) => air.shape,
+        Ok(air) => air.header.shape,
     };
     if shape.cube_bytes() > MOST_BYTES {
         return TOO_BIG.into();
@@ -93,17 +94,18 @@ fn holes(shape: Shape, flags: &[u8]) -> String {
 #[cfg(test)]
 mod tests {
     use super::*;
+    use crate::Header;
     use crate::pack::{Air, pack};
 
     /// What `receive` prints for the packets of a file whose index passes the test.
-    fn received(shape: Shape, file: &[u8], keep: impl Fn(usize) -> bool) -> String {
-        let written = write(&pack(shape, file, &[]));
-        let Air { shape, packets } = read_air(&written).unwrap();
+    fn received(header: impl Into<Header>, file: &[u8], keep: impl Fn(usize) -> bool) -> String {
+        let written = write(&pack(header, file, &[]));
+        let Air { header, packets } = read_air(&written).unwrap();
         let kept: Vec<_> = (0..packets.len())
             .filter(|&index| keep(index))
             .map(|index| packets[index])
             .collect();
-        String::from_utf8(receive(&pack(shape, &[], &kept))).unwrap()
+        String::from_utf8(receive(&pack(header, &[], &kept))).unwrap()
     }
 
     #[test]
@@ -144,6 +146,24 @@ mod tests {
         assert_eq!(printed.lines().count(), 4 + 27);
     }
 
+    /// Unsent cells are no holes, and the shape line does not say how many there are.
+    #[test]
+    fn holes_are_cells_that_were_sent() {
+        let header = Shape::new(5, 5, 5, 4).used(1);
+        let printed = received(header, &[], |_| false);
+        assert!(
+            printed.starts_with(
+                "shape 5 5 5 4\npackets 0\nrepeats 0\nleft 27\nhole 0 0 0\nhole 3 0 0\n"
+            )
+        );
+        assert_eq!(printed.lines().count(), 4 + 27);
+        let printed = received(header, &[], |index| index != 0);
+        assert_eq!(
+            printed,
+            "shape 5 5 5 4\npackets 98\nrepeats 0\nleft 0\nfile 0\n"
+        );
+    }
+
     #[test]
     fn too_big_or_refused() {
         let most = Shape::new(16, 16, 16, 16);
@@ -158,8 +178,12 @@ mod tests {
             (after(more), "refused 8\n", "refused 8\n"),
             // A cube of 65,536 bytes passes, its pack does not.
             (pack(most, &[], &[]), "too big\n", "shape 16 16 16 16\n"),
+            // With cells that are not sent the pack is small enough, but not the cube of 69,632 bytes.
+            (pack(most.used(1), &[], &[]), "\u{9}", "shape 16 16 16 16\n"),
+            (pack(more.used(1), &[], &[]), "too big\n", "too big\n"),
+            (pack(more.used(0), &[], &[]), "refused 19\n", "refused 19\n"),
         ] {
-            assert_eq!(write(&input), write_prints.as_bytes());
+            assert!(write(&input).starts_with(write_prints.as_bytes()));
             assert!(receive(&input).starts_with(receive_prints.as_bytes()));
         }
     }

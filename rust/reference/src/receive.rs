@@ -1,6 +1,6 @@
 //! The receiver: packets are collected by their cells, the cube is filled, and the file read where nothing is left.
 //!
-//! A cell is known where packets name it and all of them have the same bytes.
+//! A cell is known where packets name it and all of them have the same bytes, or where it is unsent.
 
 use std::collections::BTreeMap;
 
@@ -57,22 +57,26 @@ pub fn receive_pack(
     flags: &mut [u8],
     file: &mut [u8],
 ) -> Result<Received, Refusal> {
-    let Air { shape, packets } = read_air(air)?;
+    let Air { header, packets } = read_air(air)?;
+    let shape = header.shape;
     let lent = [cube.len(), flags.len(), file.len()];
     if lent != [shape.cube_bytes(), shape.cells(), shape.file_bytes()] {
         return Err(4.into());
     }
-    let outside = |packet: &Packet| (0..3).any(|i| coordinates(packet)[i] >= shape.lengths[i]);
-    if let Some(index) = packets.iter().position(outside) {
+    let unsent = header.unsent();
+    let sent = |packet: &Packet| cell_of(shape, packet).is_some_and(|cell| !unsent[cell]);
+    if let Some(index) = packets.iter().position(|packet| !sent(packet)) {
         return Err(Refusal::at(11, index));
     }
     let heard = copies(shape, &packets);
     let (known, in_conflict): (BTreeMap<_, _>, BTreeMap<_, _>) = heard
         .iter()
         .partition(|(_, copies)| copies.iter().all(|&copy| copy == copies[0]));
-    // Missing cells are 00h wherever the paper says what they hold.
+    // Missing cells are 00h wherever the paper says what they hold, and so are unsent ones.
     cube.fill(0x00);
-    flags.fill(1);
+    for (flag, unsent) in flags.iter_mut().zip(unsent) {
+        *flag = if unsent { 2 } else { 1 };
+    }
     for (&cell, copies) in known {
         cube[shape.bytes(cell)].copy_from_slice(copies[0]);
         flags[cell] = 0;
@@ -91,15 +95,18 @@ pub fn receive_pack(
     })
 }
 
-fn coordinates(packet: &Packet) -> [usize; 3] {
-    packet.place.map(usize::from)
+/// The cell that a packet names; none where that is outside the cube.
+fn cell_of(shape: Shape, packet: &Packet) -> Option<usize> {
+    let place = packet.place.map(usize::from);
+    let inside = (0..3).all(|axis| place[axis] < shape.lengths[axis]);
+    inside.then(|| shape.cell(place))
 }
 
 /// The cells that packets name, each with the bytes of all its packets.
 fn copies<'a>(shape: Shape, packets: &[Packet<'a>]) -> BTreeMap<usize, Vec<&'a [u8]>> {
     let mut copies: BTreeMap<usize, Vec<&[u8]>> = BTreeMap::new();
     for packet in packets {
-        let cell = shape.cell(coordinates(packet));
+        let cell = cell_of(shape, packet).expect("a cell that is sent");
         copies.entry(cell).or_default().push(packet.bytes);
     }
     copies
@@ -203,6 +210,60 @@ mod tests {
         let mut kept = memory();
         assert_eq!(kept.receive(&packets), Err(Refusal::at(11, 1)));
         assert_eq!((kept.cube[0], kept.flags[0]), (0xAA, 0xBB));
+    }
+
+    /// 4 by 3 by 3 cells of 6 bytes: of two data cells the second, which is cell 1, is unsent.
+    #[test]
+    fn unsent_cells() {
+        let header = Shape::new(4, 3, 3, 6).used(1);
+        let shape = header.shape;
+        let mut right = vec![0; shape.cube_bytes()];
+        encode(shape, &data_string(shape, &[7, 8]), &mut right).unwrap();
+        let received = |packets: &[Packet]| {
+            let air = pack(header, &[], packets);
+            let (mut cube, mut flags) = (vec![0xAA; 216], vec![0xBB; 36]);
+            let outcome = receive_pack(&air, &mut cube, &mut flags, &mut [0xCC; 8]);
+            (outcome.map(|received| received.outcome), cube, flags)
+        };
+        // Without a packet, the unsent cell forces the plane a = 1, all 00h.
+        let flag = |cell: usize| match cell {
+            1 => 2,
+            _ => u8::from(cell % 4 != 1),
+        };
+        let (left, cube, flags) = received(&[]);
+        assert_eq!(left, Ok(Outcome::Left { cells: 27 }));
+        assert_eq!(cube, [0; 216]);
+        assert!((0..36).all(|cell| flags[cell] == flag(cell)));
+
+        // The packet of the cell in use is enough.
+        let (file, cube, all) = received(&[packet(shape, &right, 0)]);
+        assert_eq!((file, cube), (Ok(Outcome::File { len: 2 }), right.clone()));
+        assert_eq!(all[..3], [0, 2, 0]);
+
+        // 11 for an unsent cell, and for the first packet that has either fault.
+        let outside = Packet {
+            place: [4, 0, 0],
+            bytes: &right[..6],
+        };
+        let [used, unsent] = [0, 1].map(|cell| packet(shape, &right, cell));
+        for (packets, index) in [
+            (vec![unsent], 0),
+            (vec![used, unsent, outside], 1),
+            (vec![used, outside, unsent], 1),
+        ] {
+            let refused = (Err(Refusal::at(11, index)), vec![0xAA; 216], vec![0xBB; 36]);
+            assert_eq!(received(&packets), refused);
+        }
+
+        // A contradiction leaves the unsent cell as it was placed.
+        let mut packets: Vec<_> = (2..36).map(|cell| packet(shape, &right, cell)).collect();
+        packets[33].bytes = &[0x55; 6];
+        let (refused, cube, placed) = received(&packets);
+        assert_eq!((refused, &cube[..12]), (Err(13.into()), &[0; 12][..]));
+        assert_eq!(
+            (&placed[..3], &cube[12..210]),
+            (&[1, 2, 0][..], &right[12..210])
+        );
     }
 
     #[test]

@@ -79,7 +79,11 @@ impl Shape {
 
     /// The bytes of a data string.
     pub fn capacity(self) -> usize {
-        self.w * self.lengths.iter().map(|l| l - 2).product::<usize>()
+        self.w * self.number_of_data_cells()
+    }
+
+    pub fn number_of_data_cells(self) -> usize {
+        self.lengths.iter().map(|l| l - 2).product()
     }
 
     /// The most bytes of a file: what the data string has beside the file's length.
@@ -92,7 +96,7 @@ impl Shape {
         3 + self.w
     }
 
-    /// The bytes of a written pack.
+    /// The bytes of a written pack that has every cell.
     pub fn pack_bytes(self) -> usize {
         17 + self.cells() * self.packet_bytes()
     }
@@ -112,6 +116,11 @@ impl Shape {
     pub fn is_data(self, cell: usize) -> bool {
         let place = self.coordinates(cell);
         (0..3).all(|axis| place[axis] < self.lengths[axis] - 2)
+    }
+
+    /// The data cells, in cell order.
+    pub fn data_cells(self) -> impl Iterator<Item = usize> {
+        (0..self.cells()).filter(move |&cell| self.is_data(cell))
     }
 
     /// The line along the axis (1, 2 or 3) through a cell.

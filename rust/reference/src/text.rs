@@ -5,7 +5,7 @@
 use std::fmt::Write;
 use std::str::from_utf8;
 
-use crate::pack::{Air, Packet, pack, read_air};
+use crate::pack::{Air, COUNT, Packet, number, pack, read_air};
 use crate::{Refusal, Shape};
 
 /// The most packets, which is what the count of section 3 can say.
@@ -30,7 +30,7 @@ pub struct PacketLine {
 
 /// Writes the text of an air pack.
 pub fn write_text(air: &[u8], text: &mut [u8]) -> Result<(), Refusal> {
-    let twin = Text::of_air(&read_air(air)?);
+    let twin = Text::of_air(&read_plain(air)?);
     let written = print(&twin);
     if text.len() != written.len() {
         return Err(4.into());
@@ -57,7 +57,15 @@ pub fn read_text(text: &[u8], air: &mut [u8]) -> Result<(), Refusal> {
 
 /// The bytes of an air pack's text, whatever cells its packets name.
 pub fn text_bytes(air: &[u8]) -> Result<usize, Refusal> {
-    Ok(print(&Text::of_air(&read_air(air)?)).len())
+    Ok(print(&Text::of_air(&read_plain(air)?)).len())
+}
+
+/// Reads an air pack that a text can say: 7 where the count of section 1 is there and is not 5.
+fn read_plain(air: &[u8]) -> Result<Air<'_>, u8> {
+    match air.get(..COUNT) {
+        Some(count) if number(count) != 5 => Err(7),
+        _ => read_air(air),
+    }
 }
 
 /// The bytes of a text's air pack, whatever cells its packets name.
@@ -151,7 +159,7 @@ impl Text {
             bytes: packet.bytes.to_vec(),
         });
         Text {
-            shape: air.shape,
+            shape: air.header.shape,
             packets: packets.collect(),
         }
     }
@@ -296,5 +304,16 @@ mod tests {
         }
         assert_eq!(text_bytes(&air), Ok(TEXT.len()));
         assert_eq!(text_bytes(&air[..32]), Err(6.into()));
+    }
+
+    /// A text cannot say U: a pack with it is refused by its count, cut or whole.
+    #[test]
+    fn count_9_has_no_text() {
+        let air = pack(Shape::new(3, 3, 3, 5).used(1), &[], &[]);
+        for len in 0..=air.len() {
+            let number = if len < 4 { 6 } else { 7 };
+            assert_eq!(text_bytes(&air[..len]), Err(number.into()));
+            assert_eq!(write_text(&air[..len], &mut []), Err(number.into()));
+        }
     }
 }
