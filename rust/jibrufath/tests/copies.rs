@@ -416,6 +416,7 @@ fn the_third_demand() {
         let cells = packets(&written).expect("a written pack");
         let source = Source {
             shape: twin(shape),
+            used: None,
             cube: cells.flat_map(|packet| packet.bytes.to_vec()).collect(),
         };
         let list = random_list(&mut random, &source);

@@ -70,6 +70,39 @@ fn losses_and_wrong_bytes() {
     assert!(seen.iter().all(|&count| count > 100), "{seen:?}");
 }
 
+/// Flag 2 is a known cell, whatever it holds: data or parity, right or wrong. It is kept, also with 13.
+#[test]
+fn unsent_cells() {
+    let mut random = Random::new(3017);
+    let mut seen = [0; 3];
+    for _ in 0..4_000 {
+        let shape = random_shape(&mut random);
+        let mut trial = Trial::new(&mut random, shape);
+        let [lost, unsent] = [0, 1].map(|least| random.among(least..=100));
+        trial.lose_percent(&mut random, lost);
+        trial.unsend_percent(&mut random, unsent);
+        let right = trial.compare(&mut random);
+        assert!(right.is_ok(), "a code cube with losses: {right:?}");
+        let unsent: Vec<usize> = (0..trial.flags.len())
+            .filter(|&cell| trial.flags[cell] == 2)
+            .collect();
+        if unsent.is_empty() {
+            continue;
+        }
+        let cell = random.pick(&unsent);
+        trial.spoil(&mut random, cell);
+        match trial.compare(&mut random) {
+            Ok(0) => seen[0] += 1,
+            Ok(_) => seen[1] += 1,
+            Err(number) => {
+                assert_eq!(number, 13);
+                seen[2] += 1;
+            }
+        }
+    }
+    assert!(seen.iter().all(|&count| count > 30), "{seen:?}");
+}
+
 #[test]
 fn every_narrow_width() {
     let mut random = Random::new(3017);
@@ -406,15 +439,15 @@ fn refusals_change_no_byte() {
         (0, 27, None, 4),
         (54, 0, None, 4),
         (0, 0, None, 4),
-        (54, 27, Some((0, 2)), 5),
-        (54, 27, Some((26, 2)), 5),
+        (54, 27, Some((0, 3)), 5),
+        (54, 27, Some((26, 3)), 5),
         (54, 27, Some((13, 255)), 5),
         (54, 27, Some((26, 128)), 5),
         // The first of several reasons counts.
-        (53, 27, Some((0, 2)), 4),
-        (54, 28, Some((27, 2)), 4),
+        (53, 27, Some((0, 3)), 4),
+        (54, 28, Some((27, 3)), 4),
     ] {
-        let mut flags: Vec<u8> = (0..flags_len).map(|i| (i % 9 == 4) as u8).collect();
+        let mut flags: Vec<u8> = (0..flags_len).map(|i| [0, 1, 2][i % 9 / 3]).collect();
         if let Some((place, flag)) = bad_flag {
             flags[place] = flag;
         }
@@ -431,6 +464,8 @@ fn contradiction_clears_only_missing_cells() {
     for cell in [0, 13, 14] {
         trial.lose(&mut random, cell);
     }
+    trial.flags[1] = 2;
+    trial.flags[26] = 2;
     agree(
         "contradiction",
         &mut random,

@@ -60,7 +60,7 @@ fn random_packs() {
     }
     // Every answer that there is has come often.
     let often = 40;
-    for number in [1, 2, 3, 4, 6, 7, 8, 9, 10] {
+    for number in [1, 2, 3, 4, 6, 7, 8, 9, 10, 19] {
         assert!(writer[&Err(number)] > often, "{writer:?}");
         assert!(receiver[&Err(number)] > often, "{receiver:?}");
     }
@@ -102,6 +102,11 @@ fn other_counts() {
         (&job, 0, 0, 7, 7),
         (&job, 0, 4, 7, 7),
         (&job, 0, 6, 7, 7),
+        (&job, 0, 8, 7, 7),
+        (&job, 0, 10, 7, 7),
+        // The four bytes behind the shape are then the number of used data cells, and 3 are too many.
+        (&job, 0, 9, 19, 19),
+        (&job, 0, 0x0109, 7, 7),
         (&job, 0, 0x0105, 7, 7),
         (&job, 0, 0x0100_0005, 7, 7),
         (&job, 0, 0xFFFF_FFFF, 7, 7),
@@ -387,7 +392,7 @@ fn large_packs() {
     let mut random = Random::new(5002);
     for large in LARGE_SHAPES {
         let shape = twin(large);
-        let source = Source::of_shape(&mut random, shape);
+        let source = Source::with_file(&mut random, shape);
         let two_planes = 2 * large.l1 * large.l2;
         let first = random.among(0..=shape.cells() - two_planes);
         let burst = first..first + two_planes;

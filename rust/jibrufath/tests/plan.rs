@@ -550,10 +550,10 @@ fn random_packs() {
         let answer = answer.unwrap_or_else(|difference| panic!("{}: {difference}", KINDS[kind].0));
         *seen.entry(number(answer)).or_insert(0) += 1;
     }
-    for number in [0, 1, 2, 3, 4, 6, 7, 8, 9, 10, 11, 13, 14, 18] {
+    for number in [0, 1, 2, 3, 4, 6, 7, 8, 9, 10, 11, 13, 14, 18, 19] {
         assert!(seen[&number] > 5, "{seen:?}");
     }
-    assert_eq!(seen.len(), 14, "{seen:?}");
+    assert_eq!(seen.len(), 15, "{seen:?}");
 }
 
 #[test]

@@ -142,7 +142,7 @@ fn large_cubes() {
         compare_printed(&what, &pack(shape, &[1, 2, 3], &[]));
         compare_printed(&what, &pack(shape, &[], &[]));
         if shape.cube_bytes() <= 100_000 {
-            let source = Source::of_shape(&mut random, shape);
+            let source = Source::with_file(&mut random, shape);
             let some = (0..shape.cells()).filter(|_| random.chance(80)).collect();
             compare_printed(&what, &source.air(&mut random, some));
             let few = random.different(10, shape.cells());

@@ -364,6 +364,14 @@ fn checks_of_the_writer_in_order() {
         (vec![5, 0, 0], 0, plain(6)),
         (vec![4, 0, 0, 0], 0, plain(7)),
         (vec![9, 0, 0, 0], 0, plain(7)),
+        // A text has no place for a number of used data cells, good or bad, cut or whole.
+        (head(9, &[2, 3, 3, 0, 0, 0, 0, 0, 0]), 0, plain(7)),
+        (head(9, &[3, 3, 3, 5, 0, 1, 0, 0]), 0, plain(7)),
+        (
+            head(9, &[3, 3, 3, 5, 0, 1, 0, 0, 0, 0, 0, 0, 0, 0, 0, 0, 0]),
+            14,
+            plain(7),
+        ),
         (head(5, &[2, 3, 3, 0]), 0, plain(6)),
         (head(5, &[2, 3, 3, 0, 0]), 0, plain(1)),
         (head(5, &[3, 3, 3, 0, 0]), 0, plain(2)),
@@ -483,7 +491,7 @@ fn large_shapes() {
     let mut random = Random::new(8505);
     for large in LARGE_SHAPES {
         let shape = twin(large);
-        let source = Source::of_shape(&mut random, shape);
+        let source = Source::with_file(&mut random, shape);
         let some: Vec<usize> = (0..shape.cells()).filter(|_| random.chance(20)).collect();
         let mut air = source.air(&mut random, some);
         assert_eq!(write(&ToText::new(air.clone())), None, "{shape:?}");
