@@ -1,6 +1,6 @@
 //! The benchmark: every call against memcpy of the cube, and encoding against ISA-L, GF-Complete, zfec and par2; writing and reading
-//! the text of a pack against xxd; reading and writing plans against memcpy of their files; how time grows with the cube, with the
-//! losses and with the sweeps that they take.
+//! the text of a pack against xxd; reading and writing plans against memcpy of their files; short files with and without the cells that
+//! they leave empty; how time grows with the cube, with the losses and with the sweeps that they take.
 //!
 //! `bench` prints all tables, `bench TABLE ...` those that are named, `bench --svg PATH` all of them, and draws some. All times of one
 //! table row come from the same run, in rounds that take every candidate in turn; each is the minimum of its rounds, in processor time
@@ -25,6 +25,7 @@ mod repair;
 mod scans;
 mod sweeps;
 mod texts;
+mod unsent;
 mod widths;
 
 use std::env;
@@ -39,10 +40,11 @@ use crate::measure::ROUNDS;
 const REFERENCE_SET: Shape = Shape::new(69, 69, 25, 397);
 
 /// The names of the tables, in the order in which they are printed.
-const TABLES: [&str; 10] = [
+const TABLES: [&str; 11] = [
     "encoding",
     "repair",
     "receiving",
+    "unsent",
     "growth",
     "widths",
     "sweeps",
@@ -80,6 +82,7 @@ cube that encode has just written, to a buffer that nothing else touches. Buffer
                 rows.extend(received);
                 bars.push(bar);
             }
+            "unsent" => unsent::table()?,
             "growth" => {
                 sizes = growth::by_size()?;
                 println!();
