@@ -13,15 +13,16 @@
  *   its answer, so that calls on different memory may run at the same time.
  *
  *   cube      jibrufath_cube_bytes: w * cells, cells = l1 * l2 * l3
- *   flags     jibrufath_cells: a byte for each cell, 0 known, 1 missing
+ *   flags     jibrufath_cells: a byte for each cell, 0 known, 1 missing, 2 known and unsent
  *   data      jibrufath_capacity: w * (l1 - 2) * (l2 - 2) * (l3 - 2)
  *   file      capacity - 4, the most that a file can have; the other four bytes of the data string are its length
- *   output    jibrufath_pack_bytes: 17 + cells * (3 + w)
+ *   output    12 + the count of section 1 + sent * (3 + w), sent the number of cells that are sent; jibrufath_pack_bytes where all are:
+ *             17 + cells * (3 + w)
  *   text      jibrufath_text_bytes, of the pack whose text is written
  *   air       where a text is read, jibrufath_text_pack_bytes: 17 + packets * (3 + w)
  *   lists     of a plan that is read, at least 2 bytes a closure, 4 a fibre, 8 a splice: alone among lent slices they may be longer
  *
- *   In all a writer is lent w * cells + 17 + cells * (3 + w) bytes, and a receiver w * cells + cells + capacity - 4. jibrufath_needs
+ *   In all a writer is lent w * cells bytes and those of its output, and a receiver w * cells + cells + capacity - 4. jibrufath_needs
  *   gives the sizes that a pack asks for. The tests encode cubes up to the largest: 128 by 128 by 16 cells of 1,024 bytes, which is
  *   268,435,456 in all, and 255 by 255 by 255 of 16.
  *
@@ -47,7 +48,7 @@
  *   jibrufath_number and jibrufath_count take an answer apart.
  *
  *   A call makes its checks in the order in which its comment names them, and answers with the first that fails. The checks of a
- *   shape are 1, 2, 3, in this order. Refusals 1 to 11, 15 and 17 change no lent byte, and no refusal changes the file buffer, but for
+ *   shape are 1, 2, 3, in this order. Refusals 1 to 11, 15, 17 and 19 change no lent byte, and no refusal changes the file buffer, but for
  *   jibrufath_receive_plan, which has opened the file where it refuses the plan in it. */
 #ifndef JIBRUFATH_H
 #define JIBRUFATH_H
@@ -56,7 +57,7 @@
 
 /* The version of this interface. The major number grows where a program must be changed or compiled again. */
 #define JIBRUFATH_VERSION_MAJOR 3
-#define JIBRUFATH_VERSION_MINOR 2
+#define JIBRUFATH_VERSION_MINOR 3
 #define JIBRUFATH_VERSION_PATCH 0
 
 #ifdef __cplusplus
@@ -70,20 +71,21 @@ enum jibrufath_answer {
     JIBRUFATH_PACKET_SIZE = 2,        /* w is not 1 to 1,024 */
     JIBRUFATH_CUBE_SIZE = 3,          /* w * cells is above 268,435,456 */
     JIBRUFATH_SLICE_LENGTH = 4,       /* a lent slice has not the exact length; a list is too short, or ends inside an entry */
-    JIBRUFATH_FLAG_VALUE = 5,         /* a flag is neither 0 nor 1 */
+    JIBRUFATH_FLAG_VALUE = 5,         /* a flag is above 2 */
     JIBRUFATH_TRUNCATED = 6,          /* the pack ends inside a count or a section */
-    JIBRUFATH_HEADER_COUNT = 7,       /* the count of section 1 is not 5 */
+    JIBRUFATH_HEADER_COUNT = 7,       /* the count of section 1 is neither 5 nor 9, or not 5 for a text */
     JIBRUFATH_TRAILING_BYTES = 8,     /* the pack has bytes after section 3 */
     JIBRUFATH_SECTION_COUNT = 9,      /* the section that must be empty is not */
     JIBRUFATH_CAPACITY = 10,          /* the data string has no room for the file, or not even for its length */
-    JIBRUFATH_CELL_INDEX = 11,        /* a packet names a cell outside the cube; the count is the packet's index */
+    JIBRUFATH_CELL_INDEX = 11,        /* a packet names a cell outside the cube or an unsent one; the count is the packet's index */
     /* 12 is not given any more, and the number is not used again. */
     JIBRUFATH_CONTRADICTION = 13,     /* the known cells contradict each other */
     JIBRUFATH_FILE_LENGTH = 14,       /* the data string holds no file: too long, or bytes behind it that are not 00h */
     JIBRUFATH_ERASURE = 15,           /* a flag is 1, and mending takes only whole cubes */
     JIBRUFATH_UNCORRECTED = 16,       /* what mending leaves is not a code cube */
     JIBRUFATH_LINE = 17,              /* a line of a text breaks the form; the count is the line's number from 1 */
-    JIBRUFATH_ENTRY = 18              /* a plan breaks a rule, is cut or has bytes left over; the count is the offset */
+    JIBRUFATH_ENTRY = 18,             /* a plan breaks a rule, is cut or has bytes left over; the count is the offset */
+    JIBRUFATH_USED_CELLS = 19         /* the number of used data cells is below 1, above the data cells, or too low for the file */
 };
 
 /* The number of an answer, and its count. */
@@ -105,16 +107,21 @@ uint64_t jibrufath_cells(uint64_t l1, uint64_t l2, uint64_t l3, uint64_t w);
 uint64_t jibrufath_cube_bytes(uint64_t l1, uint64_t l2, uint64_t l3, uint64_t w);
 /* The bytes of a data string; a file buffer has 4 less. */
 uint64_t jibrufath_capacity(uint64_t l1, uint64_t l2, uint64_t l3, uint64_t w);
-/* The bytes of a written pack. */
+/* The bytes of a written pack that has every cell. */
 uint64_t jibrufath_pack_bytes(uint64_t l1, uint64_t l2, uint64_t l3, uint64_t w);
 
 /* Packs. A pack is three sections, each behind its count in four bytes, low first:
  *   1  count 5: l1, l2, l3 in a byte each, w in two, low first
+ *      count 9: the same, then the number of used data cells in four, low first
  *   2  count = bytes of the file, then the file
  *   3  count = packets, then for each a, b, c in a byte each and the w bytes of the cell
- * A job pack holds a file and no packet; an air pack holds packets and no file. */
+ * A job pack holds a file and no packet; an air pack holds packets and no file.
+ *
+ * A short file in a big cube leaves most data cells 00h. With count 9 the data cells from the number that is used on, counted from 0 in
+ * cell order, are unsent: 00h, known to the receiver from the start, and in no packet. All other cells are sent, parity cells always.
+ * used * w must be at least 4 + the bytes of the file. With count 5 all data cells are used. */
 
-/* The places in needs. The other 7 are 0, and are kept. */
+/* The places in needs. The other 6 are 0, and are kept. */
 enum jibrufath_need_place {
     JIBRUFATH_NEED_L1 = 0,
     JIBRUFATH_NEED_L2 = 1,
@@ -124,7 +131,8 @@ enum jibrufath_need_place {
     JIBRUFATH_NEED_CUBE_BYTES = 5,
     JIBRUFATH_NEED_CAPACITY = 6,      /* the bytes of a data string */
     JIBRUFATH_NEED_FILE_BYTES = 7,    /* the bytes of the receiver's file buffer */
-    JIBRUFATH_NEED_PACK_BYTES = 8,    /* the bytes of the writer's output */
+    JIBRUFATH_NEED_PACK_BYTES = 8,    /* the bytes of the writer's output, which has the cells that are sent */
+    JIBRUFATH_NEED_USED = 9,          /* the used data cells: with count 5 all of them */
     JIBRUFATH_NEEDS = 16
 };
 
@@ -133,18 +141,20 @@ enum jibrufath_need_place {
  * pack and its length; needs, which is an array of 16. All 16 are written by every call, and all are 0 with a refusal: they are the
  * answer, and not lent memory.
  *
- * Checks: 6 count 1 is cut; 7; 6 section 1 is cut; 1, 2, 3; 10 capacity below 4. */
+ * Checks: 6 count 1 is cut; 7; 6 section 1 is cut; 1, 2, 3; 10 capacity below 4; 19 the used cells are below 1 or above the data
+ * cells. */
 uint64_t jibrufath_needs(
     const uint8_t *pack, uint64_t pack_len,
     uint64_t needs[16]);
 
-/* Writes a job pack's file as an air pack that has every packet, in cell order.
+/* Writes a job pack's file as an air pack that has the packet of every cell that is sent, in cell order, behind the same section 1.
  *
  * job and its length; cube; output. OK: cube is the code cube of the file, output the air pack; every byte of both is written, and
  * what they held does not matter. A refusal changes nothing.
  *
- * Checks: 6 count 1 is cut; 7; 6 section 1 is cut; 1, 2, 3; 10 capacity below 4; 6 count 2 is cut; 10 count 2 above capacity - 4;
- * 6 the file is cut; 6 count 3 is cut; 9 count 3 is not 0; 8; 4. */
+ * Checks: 6 count 1 is cut; 7; 6 section 1 is cut; 1, 2, 3; 10 capacity below 4; 19 the used cells are below 1 or above the data cells;
+ * 6 count 2 is cut; 10 count 2 above capacity - 4; 19 used * w below 4 + count 2; 6 the file is cut; 6 count 3 is cut; 9 count 3 is
+ * not 0; 8; 4. */
 uint64_t jibrufath_write_pack(
     const uint8_t *job, uint64_t job_len,
     uint8_t *cube, uint64_t cube_len,
@@ -165,23 +175,24 @@ enum jibrufath_count_place {
  *
  * A cell is known where its copies are all equal. Copies that differ make their cell missing, whichever came first, and no further
  * copy makes it known again; like any other missing cell it is filled where the lines force its bytes. Copies that are all equal and
- * all wrong make a known cell, and 13 may follow.
+ * all wrong make a known cell, and 13 may follow. Unsent cells are known from the start, and 11 refuses a packet for one, whatever its
+ * bytes.
  *
  * air and its length; cube; flags; file; counts, which is an array of 16. What cube, flags and file hold before does not matter. OK
  * with count 0: the file came out. OK with another count: so many cells are left, always 27 or more. All 16 counts are written by
  * every call, and all are 0 with a refusal.
  *
- * Checks: 6 count 1 is cut; 7; 6 section 1 is cut; 1, 2, 3; 10 capacity below 4; 6 count 2 is cut; 9 count 2 is not 0; 6 count 3 is
- * cut; 6 the packets are cut; 8; 4; 11 of any packet; then 13, 14.
+ * Checks: 6 count 1 is cut; 7; 6 section 1 is cut; 1, 2, 3; 10 capacity below 4; 19 the used cells are below 1 or above the data cells;
+ * 6 count 2 is cut; 9 count 2 is not 0; 6 count 3 is cut; 6 the packets are cut; 8; 4; 11 of any packet; then 13, 14.
  *
  * What memory holds afterwards:
  *
- *   answer           cube                                   flags                      file
- *   1 to 4, 6 to 11  as before                              as before                  as before
- *   13               cells known from packets, else 00h     0 where known              as before
- *   14               filled, a code cube                    all 0                      as before
- *   OK, cells left   filled, 00h in the cells left          1 in the cells left        as before
- *   OK, a file       filled, a code cube                    all 0                      the file, then as before */
+ *   answer               cube                                 flags                                      file
+ *   1 to 4, 6 to 11, 19  as before                            as before                                  as before
+ *   13                   cells known from packets, else 00h   0 known from packets, 2 unsent, 1 else     as before
+ *   14                   filled, a code cube                  2 unsent, 0 else                           as before
+ *   OK, cells left       filled, 00h in the cells left        1 in the cells left, 2 unsent, 0 else      as before
+ *   OK, a file           filled, a code cube                  2 unsent, 0 else                           the file, then as before */
 uint64_t jibrufath_receive_pack(
     const uint8_t *air, uint64_t air_len,
     uint8_t *cube, uint64_t cube_len,
@@ -199,10 +210,10 @@ uint64_t jibrufath_receive_pack(
  * What jibrufath_write_text writes, jibrufath_read_text reads back to the same pack; what jibrufath_read_text accepts,
  * jibrufath_write_text writes back to the same characters. Repeats, and copies of a cell that differ, pass both. */
 
-/* The bytes of a pack's text, as the count, whatever cells its packets name.
+/* The bytes of a pack's text, as the count, whatever cells its packets name. A text has no place for a number of used data cells.
  *
- * Checks: 6 count 1 is cut; 7; 6 section 1 is cut; 1, 2, 3; 10 capacity below 4; 6 count 2 is cut; 9 count 2 is not 0; 6 count 3 is
- * cut; 6 the packets are cut; 8. */
+ * Checks: 6 count 1 is cut; 7 it is not 5; 6 section 1 is cut; 1, 2, 3; 10 capacity below 4; 6 count 2 is cut; 9 count 2 is not 0;
+ * 6 count 3 is cut; 6 the packets are cut; 8. */
 uint64_t jibrufath_text_bytes(
     const uint8_t *air, uint64_t air_len);
 
@@ -211,8 +222,8 @@ uint64_t jibrufath_text_bytes(
  * air and its length; text. OK: text is the text of the pack; every byte of it is written, and what it held does not matter. A refusal
  * changes nothing.
  *
- * Checks: 6 count 1 is cut; 7; 6 section 1 is cut; 1, 2, 3; 10 capacity below 4; 6 count 2 is cut; 9 count 2 is not 0; 6 count 3 is
- * cut; 6 the packets are cut; 8; 4; 11 of any packet. */
+ * Checks: 6 count 1 is cut; 7 it is not 5; 6 section 1 is cut; 1, 2, 3; 10 capacity below 4; 6 count 2 is cut; 9 count 2 is not 0;
+ * 6 count 3 is cut; 6 the packets are cut; 8; 4; 11 of any packet. */
 uint64_t jibrufath_write_text(
     const uint8_t *air, uint64_t air_len,
     uint8_t *text, uint64_t text_len);
@@ -222,7 +233,7 @@ uint64_t jibrufath_write_text(
 uint64_t jibrufath_text_pack_bytes(
     const uint8_t *text, uint64_t text_len);
 
-/* Reads a text, and writes its air pack.
+/* Reads a text, and writes its air pack, which has count 5.
  *
  * text and its length, any bytes; air. OK: air is the pack of the text; every byte of it is written, and what it held does not matter.
  * A refusal changes nothing.
@@ -299,11 +310,11 @@ uint64_t jibrufath_read_plan(
  *
  * What memory holds afterwards:
  *
- *   answer            cube                     flags                  file                       lists
- *   1 to 14           as jibrufath_receive_pack leaves them           as before                  as before
- *   OK, cells left    filled, 00h where left   1 in the cells left    as before                  as before
- *   18; 4 of a list   filled, a code cube      all 0                  the file, then as before   as before
- *   OK, a plan        filled, a code cube      all 0                  the file, then as before   entries, then as before */
+ *   answer            cube                     flags                              file                       lists
+ *   1 to 14, 19       as jibrufath_receive_pack leaves them                       as before                  as before
+ *   OK, cells left    filled, 00h where left   1 where left, 2 unsent, 0 else     as before                  as before
+ *   18; 4 of a list   filled, a code cube      2 unsent, 0 else                   the file, then as before   as before
+ *   OK, a plan        filled, a code cube      2 unsent, 0 else                   the file, then as before   entries, then as before */
 uint64_t jibrufath_receive_plan(
     const uint8_t *air, uint64_t air_len,
     uint8_t *cube, uint64_t cube_len,
@@ -335,11 +346,12 @@ uint64_t jibrufath_is_code_cube(
     const uint8_t *cube, uint64_t cube_len,
     uint64_t l1, uint64_t l2, uint64_t l3, uint64_t w);
 
-/* Gives every missing cell the bytes that the lines force. Bytes of missing cells are not read.
+/* Gives every missing cell the bytes that the lines force. Bytes of missing cells are not read. A cell with flag 2 is known, with
+ * whatever bytes it holds, as one with flag 0 is.
  *
  * OK: the count is the number of cells left, those of the largest set of missing cells that meets every line in none or in at least
- * three. They hold 00h and keep flag 1; every other cell is known or filled, with flag 0. With no cell missing this is a check of the
- * cube.
+ * three. They hold 00h and keep flag 1; cells that are filled get flag 0, and known cells keep 0 or 2. With no cell missing this is a
+ * check of the cube.
  * 13: every cell that was missing holds 00h, and the flags are as before. Lines through cells left are not checked.
  *
  * Checks: 1, 2, 3, 4, 5 of all flags, 13. */
@@ -376,7 +388,7 @@ uint64_t jibrufath_mend_axis(
     uint64_t l1, uint64_t l2, uint64_t l3, uint64_t w,
     uint64_t axis);
 
-/* Passes along axes 1, 2 and 3; cube and flags are only read.
+/* Passes along axes 1, 2 and 3; cube and flags are only read. A cell with flag 2 is known.
  *
  * OK: second is the code cube that the passes lead to. 16: second is all 00h.
  *

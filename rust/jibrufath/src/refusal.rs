@@ -35,7 +35,7 @@ pub enum Refusal {
     SectionCount,
     /// 10: the data string has no room for the file, or not even for the four bytes of its length.
     Capacity,
-    /// 11: a packet names a cell outside the cube, or one that is unsent.
+    /// 11: a packet names a cell outside the cube or an unsent one.
     CellIndex {
         /// The packet's index, from 0.
         packet: u64,
@@ -180,9 +180,7 @@ impl fmt::Display for Refusal {
             Refusal::TrailingBytes => "the pack has bytes after section 3",
             Refusal::SectionCount => "the section that must be empty is not",
             Refusal::Capacity => "the data string has no room for the file",
-            Refusal::CellIndex { .. } => {
-                "a packet names a cell outside the cube, or one that is unsent"
-            }
+            Refusal::CellIndex { .. } => "a packet names a cell outside the cube or an unsent one",
             Refusal::Contradiction => "the known cells contradict each other",
             Refusal::FileLength => "the data string holds no file",
             Refusal::Erasure => "a cell is flagged missing",
@@ -192,7 +190,7 @@ impl fmt::Display for Refusal {
                 "an entry or count of the plan breaks a rule or is cut, or bytes are left over"
             }
             Refusal::UsedCells => {
-                "the used data cells are none, more than there are, or too few for the file"
+                "the number of used data cells is below 1, above the data cells, or too low for the file"
             }
         };
         write!(f, "refused {}: {meaning}", self.number())?;
@@ -245,7 +243,7 @@ mod tests {
         for (refusal, told) in [
             (
                 Refusal::CellIndex { packet: 7 },
-                "refused 11: a packet names a cell outside the cube, or one that is unsent, packet 7",
+                "refused 11: a packet names a cell outside the cube or an unsent one, packet 7",
             ),
             (
                 Refusal::Line { line: 3 },
