@@ -42,7 +42,7 @@ __all__ = [
     "encode", "extract", "fill", "from_text", "inverse", "is_code_cube", "mend", "mend_axis", "mul", "needs", "packets",
     "pow", "read_plan", "receive", "receive_plan", "scan", "to_text", "write", "write_plan",
 ]
-__version__ = "3.2.0"
+__version__ = "3.3.0"
 
 F = TypeVar("F")                # what a reception gives: bytes, or a plan
 Cell = Tuple[int, int, int]     # (a, b, c)
@@ -55,7 +55,7 @@ class Number(enum.IntEnum):
     """The number of a refusal, with its `meaning`, and the `place` that it names: "packet", "line", "offset" or "".
 
     >>> Number.CELL_INDEX.value, Number.CELL_INDEX.meaning, Number.CELL_INDEX.place
-    (11, 'a packet names a cell outside the cube', 'packet')
+    (11, 'a packet names a cell outside the cube or an unsent one', 'packet')
     """
 
     meaning: str
@@ -72,19 +72,20 @@ class Number(enum.IntEnum):
     PACKET_SIZE = 2, "W is not 1 to 1,024"
     CUBE_SIZE = 3, "W × cells is above 268,435,456"
     SLICE_LENGTH = 4, "a lent slice has not the exact length"
-    FLAG_VALUE = 5, "a flag is neither 0 nor 1"
+    FLAG_VALUE = 5, "a flag is above 2"
     TRUNCATED = 6, "the pack ends inside a count or a section"
-    HEADER_COUNT = 7, "the count of section 1 is not 5"
+    HEADER_COUNT = 7, "the count of section 1 is neither 5 nor 9, or not 5 for a text"
     TRAILING_BYTES = 8, "the pack has bytes after section 3"
     SECTION_COUNT = 9, "the section that must be empty is not"
     CAPACITY = 10, "the data string has no room for the file"
-    CELL_INDEX = 11, "a packet names a cell outside the cube", "packet"
+    CELL_INDEX = 11, "a packet names a cell outside the cube or an unsent one", "packet"
     CONTRADICTION = 13, "the known cells contradict each other"
     FILE_LENGTH = 14, "the data string holds no file"
     ERASURE = 15, "a cell is flagged missing"
     UNCORRECTED = 16, "what mending leaves is not a code cube"
     LINE = 17, "a line of the text breaks the form", "line"
     ENTRY = 18, "an entry or count of the plan breaks a rule or is cut, or bytes are left over", "offset"
+    USED_CELLS = 19, "the number of used data cells is below 1, above the data cells, or too low for the file"
 
 
 class Refusal(ValueError):
@@ -194,12 +195,20 @@ class Shape(NamedTuple):
 
     @property
     def pack_bytes(self) -> int:
-        """The length of a written pack: 17 + cells * (3 + W).
+        """The length of a written pack that has every cell: 17 + cells * (3 + W).
 
         >>> Shape(5, 4, 3, 16).pack_bytes
         1157
         """
         return _ask("pack_bytes", [], *self._numbers())
+
+    def used_by(self, length: int) -> int:
+        """The fewest used data cells that have room for a file of this length: the `used` of `write` and `air_pack`.
+
+        >>> Shape(5, 4, 3, 16).used_by(12), Shape(5, 4, 3, 16).used_by(13)
+        (1, 2)
+        """
+        return -(-(_COUNT.size + _number("length", length)) // max(self.w, 1))
 
     def _numbers(self) -> list[int]:
         """The four numbers as the library takes them."""
@@ -207,7 +216,7 @@ class Shape(NamedTuple):
 
 
 class Needs(NamedTuple):
-    """The shape in a pack, and the sizes of the memory that its calls take.
+    """The shape in a pack, the sizes of the memory that its calls take, and the number of used data cells.
 
     >>> needs(write(Shape(5, 4, 3, 16), b"any file")).receiver_bytes == 960 + 60 + 92
     True
@@ -219,6 +228,7 @@ class Needs(NamedTuple):
     capacity: int
     file_bytes: int
     pack_bytes: int
+    used: int
 
     @property
     def receiver_bytes(self) -> int:
@@ -231,31 +241,43 @@ class Needs(NamedTuple):
 
 
 def needs(pack: ReadableBuffer) -> Needs:
-    """Reads section 1 of a pack, whatever stands behind it. Refuses with 6, 7, 1, 2, 3 and 10.
+    """Reads section 1 of a pack, whatever stands behind it. Refuses with 6, 7, 1, 2, 3, 10 and 19.
 
-    >>> needs(bytes([5, 0, 0, 0, 3, 3, 3, 5, 0]))
-    Needs(shape=Shape(l1=3, l2=3, l3=3, w=5), cells=27, cube_bytes=135, capacity=5, file_bytes=1, pack_bytes=233)
+    >>> needs(bytes([5, 0, 0, 0, 3, 3, 3, 5, 0]))[1:]
+    (27, 135, 5, 1, 233, 1)
+    >>> needs(write(Shape(5, 4, 3, 16), b"any file", used=1)).used
+    1
     """
     places = _counts(16)
     _ask("needs", [_read(pack)], places)
-    return Needs(Shape(*places[:4]), *places[4:9])
+    return Needs(Shape(*places[:4]), *places[4:10])
 
 
 # Files into packets and back.
 
 
-def write(shape: Shape, file: ReadableBuffer) -> bytes:
+def write(shape: Shape, file: ReadableBuffer, used: Optional[int] = None) -> bytes:
     """The air pack of all packets of a file, in cell order. Refuses with 1, 2, 3, and 10 where the file has no room.
+
+    Where `used` says how many data cells are used, the others are unsent: 00h, known to the receiver, and in no packet.
+    It refuses with 19 a number that is not 1 to the number of data cells, or that has no room for the file.
 
     >>> pack = write(Shape(5, 4, 3, 16), b"every packet of it")
     >>> len(pack)
     1157
     >>> receive(pack).file
     b'every packet of it'
+    >>> shape = Shape(20, 20, 10, 100)
+    >>> short = write(shape, b"a short file", used=shape.used_by(12))
+    >>> len(short), shape.pack_bytes
+    (145148, 412017)
+    >>> receive(short).file
+    b'a short file'
     """
     data = _read(file)
-    job = b"".join((_header(shape, len(data)), data, _COUNT.pack(0)))
-    cube, pack = _fresh(shape.cube_bytes), _fresh(shape.pack_bytes)
+    job = b"".join((_header(shape, len(data), used), data, _COUNT.pack(0)))
+    needed = needs(job)
+    cube, pack = _fresh(needed.cube_bytes), _fresh(needed.pack_bytes)
     _ask("write_pack", [job, cube, pack])
     return pack
 
@@ -265,8 +287,8 @@ class Reception(Generic[F]):
     """What came of a pack: the `file`, or None and how many cells are `left`.
 
     `packets` are those of the pack, `repeats` those of them whose cell had come before, with the same bytes or with
-    others, `conflicts` the cells whose copies are not all equal, `flags` a byte for each cell, 1 where it is left and
-    else 0.
+    others, `conflicts` the cells whose copies are not all equal, `flags` a byte for each cell, 1 where it is left, 2
+    where it is unsent, and else 0.
 
     >>> receive(write(Shape(3, 3, 3, 5), b"8"))
     Reception(file=b'8', left=0, packets=27, repeats=0, conflicts=0, shape=Shape(l1=3, l2=3, l3=3, w=5))
@@ -290,7 +312,8 @@ class Reception(Generic[F]):
         """
         l1, l2, l3, _ = self.shape
         backwards = itertools.product(range(l3), range(l2), range(l1))
-        return [(a, b, c) for c, b, a in itertools.compress(backwards, self.flags)]
+        left = self.flags.replace(b"\2", b"\0")
+        return [(a, b, c) for c, b, a in itertools.compress(backwards, left)]
 
 
 def receive(pack: ReadableBuffer, limit: Optional[int] = None) -> Reception[bytes]:
@@ -298,7 +321,7 @@ def receive(pack: ReadableBuffer, limit: Optional[int] = None) -> Reception[byte
 
     Packets come in any order, each any number of times. Copies that differ make their cell missing, whichever came
     first. `limit` is the most bytes for cube, flags and file together, `default_limit` where it is None; above it the
-    error is `Limit`. Refuses with 6, 7, 1, 2, 3, 10, 9 and 8 before that, and with 11, 13 and 14 after it.
+    error is `Limit`. Refuses with 6, 7, 1, 2, 3, 10, 19, 9 and 8 before that, and with 11, 13 and 14 after it.
 
     >>> shape = Shape(5, 4, 3, 16)
     >>> heard = list(packets(write(shape, b"a broadcast")))
@@ -329,74 +352,104 @@ def receive(pack: ReadableBuffer, limit: Optional[int] = None) -> Reception[byte
 
 
 def default_limit(pack: ReadableBuffer) -> int:
-    """The memory that `receive` takes at most: 28 times the pack's bytes, and 1 MiB for a pack however short.
+    """The memory that `receive` takes at most: 28 times the pack's bytes, 80 times where the pack says how many data
+    cells are used, and 1 MiB for a pack however short.
 
-    A pack that gives a file has at least as many packets as its cube has data cells, and of any cube a 27th or more are
-    data cells. So cube, flags and file take less than 28 times the bytes of such a pack: what the limit keeps out are
-    packs that would end in cells left or in a refusal.
+    A pack that gives a file has at least as many packets as its cube has used data cells. Where all are used, they are
+    a 27th or more of any cube. So cube, flags and file take less than 28 times the bytes of such a pack: what the limit
+    keeps out are packs that would end in cells left or in a refusal. Where few are used, a few packets may be enough
+    for a cube of any size. A pack with every packet that is sent never takes 80 times its bytes; for one that lost most
+    of them in a big cube, `receive` takes a larger limit.
 
     >>> default_limit(bytes(17)), default_limit(bytes(100_000))
     (1048576, 2800000)
     """
-    return max(28 * memoryview(pack).nbytes, 1 << 20)
+    air = _read(pack)
+    times = 80 if len(air) > 0 and air[0] == _USED else 28
+    return max(times * len(air), 1 << 20)
 
 
 def packets(pack: ReadableBuffer) -> Iterator[Tuple[Cell, bytes]]:
     """The packets of an air pack in their order, each as the (a, b, c) that it names and its W bytes.
 
-    They may name cells outside the cube. Refuses at once with 6, 7, 1, 2, 3, 10, 9 and 8. The pack cannot be resized as
-    long as the iterator is there.
+    They may name cells outside the cube. Refuses at once with 6, 7, 1, 2, 3, 10, 19, 9 and 8. The pack cannot be
+    resized as long as the iterator is there.
 
     >>> list(packets(write(Shape(3, 3, 3, 5), b"8")))[0]
     ((0, 0, 0), b'\\x01\\x00\\x00\\x008')
     """
     air = _read(pack)
     w = _read_air(air).shape.w
-    behind_head = memoryview(air)[_HEADER.size + _COUNT.size:]
+    behind_head = memoryview(air)[3 * _COUNT.size + air[0]:]
     return (((a, b, c), data) for a, b, c, data in struct.iter_unpack(f"<3B{w}s", behind_head))
 
 
-def air_pack(shape: Shape, packets: Iterable[Tuple[Cell, ReadableBuffer]]) -> bytes:
+def air_pack(
+    shape: Shape, packets: Iterable[Tuple[Cell, ReadableBuffer]], used: Optional[int] = None
+) -> bytes:
     """The air pack of these packets, in their order and with every copy. Each is an (a, b, c) and W bytes.
 
-    Refuses with 1, 2, 3 and 10; then with 4 a packet that has not W bytes, and with 11 one whose cell is outside the
-    cube.
+    `used` is as in `write`. Refuses with 1, 2, 3, 10 and 19; then with 4 a packet that has not W bytes, and with 11 one
+    whose cell is outside the cube or unsent.
 
     >>> air_pack(Shape(3, 3, 3, 5), [((2, 1, 0), b"12345")])[13:]
     b'\\x01\\x00\\x00\\x00\\x02\\x01\\x0012345'
     >>> air_pack(Shape(3, 3, 3, 5), [((3, 0, 0), b"12345")])
     Traceback (most recent call last):
-    jibrufath.Refusal: refused 11: a packet names a cell outside the cube, packet 0
+    jibrufath.Refusal: refused 11: a packet names a cell outside the cube or an unsent one, packet 0
     """
-    header = _header(shape, 0)
+    header = _header(shape, 0, used)
+    sent = needs(header).used
     body = bytearray()
     for index, (cell, data) in enumerate(packets):
-        body += _packet(shape, index, cell, data)
+        body += _packet(shape, sent, index, cell, data)
     count = len(body) // (3 + shape.w)
     return b"".join((header, _COUNT.pack(_number("the count of packets", count, 32)), body))
 
 
-# The head of a pack is section 1 and the counts of sections 2 and 3: a header as it is here, then another count.
-_HEADER = struct.Struct("<IBBBHI")
+# The head of a pack is section 1 and the counts of sections 2 and 3. The count of section 1 is 5, or 9 where the number
+# of used data cells stands behind the shape.
+_SHAPE = struct.Struct("<IBBBH")
 _COUNT = struct.Struct("<I")
+_USED = 9
 
 
-def _header(shape: Shape, length: int) -> bytes:
+def _section(shape: Shape, used: Optional[int]) -> bytes:
+    """Section 1 with its count, whose numbers must have their places in it."""
+    shape.file_bytes  # refuses a shape that has none
+    if used is None:
+        return _SHAPE.pack(5, *shape)
+    number = _number("used", used)
+    if number >= 1 << 32:
+        raise Refusal(Number.USED_CELLS)
+    return _SHAPE.pack(_USED, *shape) + _COUNT.pack(number)
+
+
+def _header(shape: Shape, length: int, used: Optional[int]) -> bytes:
     """Section 1 and the count of section 2, where a file of this length has room."""
-    if length > shape.file_bytes:
+    section = _section(shape, used)
+    needed = needs(section)
+    if length > needed.file_bytes:
         raise Refusal(Number.CAPACITY)
-    return _HEADER.pack(5, *shape, length)
+    return section + _COUNT.pack(length)
 
 
-def _packet(shape: Shape, index: int, cell: Cell, data: ReadableBuffer) -> bytes:
-    """A packet as it stands in a pack of this shape."""
+def _packet(shape: Shape, used: int, index: int, cell: Cell, data: ReadableBuffer) -> bytes:
+    """A packet as it stands in a pack of this shape, with so many used data cells."""
     content = memoryview(data).tobytes()
     if len(content) != shape.w:
         raise Refusal(Number.SLICE_LENGTH)
     a, b, c = cell
-    if not (0 <= a < shape.l1 and 0 <= b < shape.l2 and 0 <= c < shape.l3):
+    inside = 0 <= a < shape.l1 and 0 <= b < shape.l2 and 0 <= c < shape.l3
+    if not inside or not _sends(shape, used, a, b, c):
         raise Refusal(Number.CELL_INDEX, index)
     return bytes((a, b, c)) + content
+
+
+def _sends(shape: Shape, used: int, a: int, b: int, c: int) -> bool:
+    """Whether a cell is sent: a parity cell, or one of the used data cells."""
+    data1, data2, data3 = shape.l1 - 2, shape.l2 - 2, shape.l3 - 2
+    return not (a < data1 and b < data2 and c < data3) or a + data1 * (b + data2 * c) < used
 
 
 def _read_air(air: Any) -> Needs:
@@ -449,9 +502,10 @@ def is_code_cube(shape: Shape, cube: ReadableBuffer) -> bool:
 def fill(shape: Shape, cube: WriteableBuffer, flags: WriteableBuffer) -> int:
     """Gives every missing cell the bytes that the lines force, in place, and answers with the number of cells left.
 
-    `flags` has a byte for each cell: 0 known, 1 missing. The cells left are the largest set of missing cells that meets
-    every line in none or in at least three. They become 00h and keep flag 1; all other flags become 0. With no cell
-    missing, the call checks the cube. Cube and flags must not overlap, which is a ValueError.
+    `flags` has a byte for each cell: 0 known, 1 missing, 2 known and unsent. The cells left are the largest set of
+    missing cells that meets every line in none or in at least three. They become 00h and keep flag 1; cells that are
+    filled get flag 0, and known cells keep theirs. With no cell missing, the call checks the cube. Cube and flags must
+    not overlap, which is a ValueError.
 
     Refuses with 1, 2, 3, 4 and 5, which change no byte, and with 13 where the known cells contradict each other:
     missing cells are then 00h, and the flags as before.
@@ -538,7 +592,7 @@ def mend_axis(shape: Shape, cube: WriteableBuffer, axis: int) -> None:
 def to_text(pack: ReadableBuffer) -> str:
     """The text of an air pack: a line for its shape and one for each packet.
 
-    Refuses with 6, 7, 1, 2, 3, 10, 9, 8 and 11.
+    Refuses with 6, 7, 1, 2, 3, 10, 9, 8 and 11; with 7 also a pack that says how many data cells are used.
 
     >>> print(to_text(air_pack(Shape(3, 3, 3, 5), [((2, 1, 0), bytes([1, 0, 0, 0, 0xA7]))])), end="")
     shape 3 3 3 5

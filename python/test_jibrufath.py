@@ -273,13 +273,15 @@ class Cubes(unittest.TestCase):
             shape = random_shape(rng, 6, 4)
             cube = jibrufath.encode(shape, rng.randbytes(shape.capacity))
             lost = rng.sample(range(shape.cells), rng.randint(0, shape.cells))
-            received, flags = bytearray(cube), bytearray(shape.cells)
+            # Known cells have flag 0 or 2, and keep it.
+            received, flags = bytearray(cube), bytearray(rng.choices((0, 2), k=shape.cells))
             for cell in lost:
                 received[shape.w * cell:shape.w * (cell + 1)] = rng.randbytes(shape.w)
                 flags[cell] = 1
             left = peel(shape, lost)
+            filled = bytes(cell in left if flag == 1 else flag for cell, flag in enumerate(flags))
             self.assertEqual(jibrufath.fill(shape, received, flags), len(left))
-            self.assertEqual(flags, bytes(cell in left for cell in range(shape.cells)))
+            self.assertEqual(flags, filled)
             for cell in range(shape.cells):
                 place = slice(shape.w * cell, shape.w * (cell + 1))
                 self.assertEqual(received[place], bytes(shape.w) if cell in left else cube[place])
@@ -357,6 +359,41 @@ class Packs(unittest.TestCase):
         self.assertEqual(list(jibrufath.packets(pack)), sent)
         self.assertEqual(jibrufath.air_pack(shape, sent), pack)
 
+    def test_unsent_cells(self):
+        """Data cells from the one that `used` numbers on are 00h, known and in no packet; the rest is as without them."""
+        rng = random.Random(8)
+        files = 0
+        for _ in range(500):
+            shape = random_shape(rng, 6)
+            used = rng.randint(shape.used_by(0), shape.capacity // shape.w)
+            file = rng.randbytes(rng.randint(0, used * shape.w - 4))
+            unsent = data_cells(shape)[used:]
+            pack = jibrufath.write(shape, file, used)
+            self.assertEqual(pack[:13], struct.pack("<IBBBHI", 9, *shape, used))
+            sent = list(jibrufath.packets(pack))
+            whole = jibrufath.packets(jibrufath.write(shape, file))
+            self.assertEqual(sent, [item for item in whole if cell_number(shape, *item[0]) not in unsent])
+            self.assertEqual(len(pack), 21 + len(sent) * (3 + shape.w))
+            self.assertEqual(jibrufath.needs(pack)[5:], (len(pack), used))
+            self.assertEqual(jibrufath.air_pack(shape, sent, used), pack)
+            heard = rng.choices(sent, k=rng.randint(0, len(sent)))
+            reception = jibrufath.receive(jibrufath.air_pack(shape, heard, used), limit=1 << 30)
+            left = peel(shape, lost_of(shape, heard) - set(unsent))
+            self.assertEqual(reception.file, None if left else file)
+            self.assertEqual([cell_number(shape, *cell) for cell in reception.missing], sorted(left))
+            flags = bytes(2 if cell in unsent else cell in left for cell in range(shape.cells))
+            self.assertEqual(reception.flags, flags)
+            files += not left
+        self.assertTrue(100 < files < 450, files)
+
+    def test_fewest_used_cells(self):
+        shape = Shape(4, 5, 6, 3)
+        for length in range(69):
+            used = shape.used_by(length)
+            self.assertEqual(jibrufath.receive(jibrufath.write(shape, bytes(length), used)).file, bytes(length))
+            refusal = refused(self, lambda: jibrufath.write(shape, bytes(length), used - 1))
+            self.assertEqual(refusal.number, Number.USED_CELLS)
+
     def test_stopping_set(self):
         shape = Shape(5, 6, 7, 8)
         sent = dict(jibrufath.packets(jibrufath.write(shape, b"a broadcast")))
@@ -415,17 +452,25 @@ class Packs(unittest.TestCase):
         for length in range(len(pack)):
             for call in (jibrufath.receive, jibrufath.packets, jibrufath.to_text, jibrufath.receive_plan):
                 self.assertEqual(refused(self, lambda: call(pack[:length])).number, Number.TRUNCATED)
+        pack = jibrufath.write(Shape(4, 3, 3, 5), b"8", used=1)
+        for length in range(len(pack)):
+            for call in (jibrufath.receive, jibrufath.packets, jibrufath.receive_plan):
+                self.assertEqual(refused(self, lambda: call(pack[:length])).number, Number.TRUNCATED)
+            # A text has no place for the number of used data cells, so that its count is refused once it is there.
+            expected = Number.TRUNCATED if length < 4 else Number.HEADER_COUNT
+            self.assertEqual(refused(self, lambda: jibrufath.to_text(pack[:length])).number, expected)
 
     def test_hostile_packs(self):
         """Whatever the bytes are, a call gives an answer, or one of the two errors that it has."""
         rng = random.Random(7)
         pack = jibrufath.write(Shape(4, 3, 3, 7), b"any file")
+        used = jibrufath.write(Shape(4, 3, 3, 14), b"any file", used=1)
         seen = set()
-        for hostile in self.hostile(rng, pack):
+        for hostile in itertools.chain(self.hostile(rng, pack), self.hostile(rng, used)):
             for call in ("receive", "receive_plan", "to_text", "needs"):
                 seen.add(kind(outcome(jibrufath, call, hostile)))
         self.assertLessEqual({"answer", "limit"}, seen)
-        self.assertLessEqual({("refused", number) for number in (1, 2, 3, 6, 7, 8, 9, 10, 11, 13, 14, 18)}, seen)
+        self.assertLessEqual({("refused", number) for number in (1, 2, 3, 6, 7, 8, 9, 10, 11, 13, 14, 18, 19)}, seen)
 
     def hostile(self, rng, pack):
         """Random bytes, a good pack with some of its first bytes changed, and short packs of any shape."""
@@ -541,6 +586,7 @@ def refused(case, call):
 
 
 SMALL = Shape(3, 3, 3, 5)
+LONGER = Shape(4, 3, 3, 5)
 PACK = jibrufath.write(SMALL, b"8")
 CUBE = jibrufath.encode(SMALL, b"\1\0\0\0008")
 
@@ -589,11 +635,12 @@ REFUSED = [
     (4, None, lambda: jibrufath.mend(SMALL, CUBE, bytes(26))),
     (4, None, lambda: jibrufath.mend_axis(SMALL, bytearray(136), 1)),
     (4, None, lambda: jibrufath.air_pack(SMALL, [((0, 0, 0), bytes(4))])),
-    (5, None, lambda: jibrufath.fill(SMALL, bytearray(CUBE), bytearray(26) + b"\2")),
-    (5, None, lambda: jibrufath.mend(SMALL, CUBE, bytes(26) + b"\2")),
+    (5, None, lambda: jibrufath.fill(SMALL, bytearray(CUBE), bytearray(26) + b"\3")),
+    (5, None, lambda: jibrufath.mend(SMALL, CUBE, bytes(26) + b"\3")),
     (6, None, lambda: jibrufath.needs(b"")),
     (6, None, lambda: jibrufath.needs(PACK[:8])),
     (7, None, lambda: jibrufath.receive(changed(PACK, 0, 6))),
+    (7, None, lambda: jibrufath.to_text(jibrufath.write(SMALL, b"8", used=1))),
     (8, None, lambda: jibrufath.receive(PACK + b"\0")),
     (8, None, lambda: jibrufath.packets(PACK + b"\0")),
     (8, None, lambda: jibrufath.to_text(PACK + b"\0")),
@@ -610,11 +657,13 @@ REFUSED = [
     (11, 1, lambda: jibrufath.air_pack(SMALL, [((2, 2, 2), bytes(5)), ((0, 3, 0), bytes(5))])),
     (11, 0, lambda: jibrufath.air_pack(SMALL, [((0, 0, -1), bytes(5))])),
     (11, 0, lambda: jibrufath.air_pack(SMALL, [((256, 0, 0), bytes(5))])),
+    (11, 1, lambda: jibrufath.air_pack(LONGER, [((0, 0, 0), bytes(5)), ((1, 0, 0), bytes(5))], used=1)),
+    (11, 0, lambda: jibrufath.receive(changed(jibrufath.write(LONGER, b"", used=1), 21, 1))),
     (13, None, lambda: jibrufath.receive(changed(PACK, len(PACK) - 1, PACK[-1] ^ 1))),
     (13, None, lambda: jibrufath.fill(SMALL, bytearray(range(135)), bytearray(27))),
     (14, None, lambda: jibrufath.receive(no_file())),
     (14, None, lambda: jibrufath.receive_plan(no_file())),
-    (15, None, lambda: jibrufath.mend(SMALL, CUBE, b"\1" + bytes(26))),
+    (15, None, lambda: jibrufath.mend(SMALL, CUBE, b"\1\2" + bytes(25))),
     (16, None, lambda: jibrufath.mend(Shape(4, 4, 4, 1), bytes(range(64)))),
     (17, 1, lambda: jibrufath.from_text("")),
     (17, 2, lambda: jibrufath.from_text("shape 3 3 3 5\npacket 0 0 0 01\n")),
@@ -624,6 +673,12 @@ REFUSED = [
     (18, 12, lambda: jibrufath.read_plan(bytes(13))),
     (18, 0, lambda: jibrufath.receive_plan(PACK)),
     (18, 4, lambda: jibrufath.receive_plan(jibrufath.write(Shape(3, 3, 3, 9), b"\1\0\0\0\7"))),
+    (19, None, lambda: jibrufath.write(LONGER, b"", used=0)),
+    (19, None, lambda: jibrufath.write(LONGER, b"", used=3)),
+    (19, None, lambda: jibrufath.write(LONGER, b"", used=2 ** 32 + 1)),
+    (19, None, lambda: jibrufath.write(LONGER, b"88", used=1)),
+    (19, None, lambda: jibrufath.air_pack(LONGER, [], used=2 ** 64 - 1)),
+    (19, None, lambda: jibrufath.receive(changed(jibrufath.write(LONGER, b"", used=1), 12, 1))),
 ]
 
 
@@ -640,7 +695,7 @@ class Refusals(unittest.TestCase):
 
     def test_texts(self):
         for refusal, text in [
-            (Refusal(11, 7), "refused 11: a packet names a cell outside the cube, packet 7"),
+            (Refusal(11, 7), "refused 11: a packet names a cell outside the cube or an unsent one, packet 7"),
             (Refusal(17, 3), "refused 17: a line of the text breaks the form, line 3"),
             (Refusal(16, 0), "refused 16: what mending leaves is not a code cube"),
         ]:
@@ -667,6 +722,7 @@ class Arguments(unittest.TestCase):
         yield lambda n: Shape(3, n, 3, 5).file_bytes
         yield lambda n: jibrufath.write(Shape(n, 3, 3, 5), b"")
         yield lambda n: jibrufath.air_pack(Shape(3, 3, 3, n), [])
+        yield SMALL.used_by
         yield lambda n: jibrufath.encode(Shape(3, n, 3, 5), bytes(5))
         yield lambda n: jibrufath.extract(Shape(3, n, 3, 5), CUBE)
         yield lambda n: jibrufath.is_code_cube(Shape(3, n, 3, 5), CUBE)
@@ -895,7 +951,7 @@ class WithAvx2(unittest.TestCase):
         data = rng.randbytes(shape.capacity)
         cube = bytearray(jibrufath.encode(shape, data))
         cube[rng.randrange(len(cube))] ^= rng.choice((0, 1))
-        flags = bytearray(rng.choices((0, 1), (3, rng.choice((0, 1, 2))), k=shape.cells))
+        flags = bytearray(rng.choices((0, 1, 2), (2, rng.choice((0, 1, 2)), 1), k=shape.cells))
         file = random_file(rng, shape)
         sent = list(jibrufath.packets(jibrufath.write(shape, file)))
         air = jibrufath.air_pack(shape, rng.choices(sent, k=rng.randint(0, 3 * len(sent))))
@@ -906,7 +962,9 @@ class WithAvx2(unittest.TestCase):
         yield "mend", shape, cube
         yield "mend_axis", shape, cube, rng.randint(1, 3)
         yield "write", shape, file
+        yield "write", shape, file, shape.used_by(len(file))
         yield "receive", air
+        yield "receive", jibrufath.write(shape, file, shape.used_by(len(file)))
         yield "receive_plan", air
         yield "to_text", air
         yield "from_text", jibrufath.to_text(air)
