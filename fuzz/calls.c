@@ -44,21 +44,28 @@ size_t next_number(struct input *input)
 
 struct shape next_shape(struct input *input)
 {
-    struct shape shape;
+    struct shape shape = {.used = 0};
     for (int axis = 0; axis < 3; axis++)
         shape.length[axis] = 3 + next_byte(input) % 7;
     shape.w = 1 + next_byte(input) % 40;
     uint8_t rare = next_byte(input);
     if (rare >= 0xF0) {
-        shape = (struct shape){{3, 3, 3}, 1 + (rare % 16 * 73u + shape.w) % 1024};
+        shape = (struct shape){{3, 3, 3}, 1 + (rare % 16 * 73u + shape.w) % 1024, 0};
     } else if (rare >= 0xE0) {
         size_t longest = 3 + rare % 16 * 16u + shape.w % 13;
-        shape = (struct shape){{3, 3, 3}, 1 + shape.w % 9};
+        shape = (struct shape){{3, 3, 3}, 1 + shape.w % 9, 0};
         shape.length[rare % 3] = longest < 255 ? longest : 255;
     }
     if (cells_of(&shape) * shape.w > MOST_BYTES)
         shape.w = 1;
     return shape;
+}
+
+void next_used(struct input *input, struct shape *shape)
+{
+    uint8_t choice = next_byte(input);
+    size_t number = next_byte(input) * 256u + next_byte(input);
+    shape->used = choice & 1 ? 1 + number % data_cells_of(shape) : 0;
 }
 
 size_t near(size_t exact, uint8_t choice, int slice)
@@ -93,9 +100,9 @@ void check_filled(const struct shape *shape, const uint8_t *placed_flags, const 
     require(memcmp(flags.bytes, peeled, flags.len) == 0, "the largest stopping set is flagged");
     size_t count = 0;
     for (size_t cell = 0; cell < flags.len; cell++) {
-        count += flags.bytes[cell];
+        count += flags.bytes[cell] == 1;
         size_t at = cell * shape->w;
-        require(placed_flags[cell] || memcmp(cube.bytes + at, placed_cube + at, shape->w) == 0, "a known cell");
+        require(placed_flags[cell] == 1 || memcmp(cube.bytes + at, placed_cube + at, shape->w) == 0, "a known cell");
     }
     require(count == left && (left == 0 || left >= 27), "the count of cells left");
     require(lines_right(shape, cube.bytes, flags.bytes), "the lines without cells left");

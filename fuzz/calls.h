@@ -21,6 +21,9 @@ size_t next_number(struct input *input);
 /* A small shape that passes the checks; now and then a wide or a long one. */
 struct shape next_shape(struct input *input);
 
+/* A number of used data cells for the shape, or none, by the input. */
+void next_used(struct input *input, struct shape *shape);
+
 /* The exact length, or by one byte of the input one more or one less in one slice. */
 size_t near(size_t exact, uint8_t choice, int slice);
 
@@ -35,7 +38,7 @@ enum call {
 };
 
 /* The largest number of the table. */
-#define MOST_NUMBER 18
+#define MOST_NUMBER 19
 
 /* Counts an answer, and requires one of the numbers that the call can give, as bits. */
 void note(enum call call, uint64_t answer, uint32_t numbers);
@@ -46,7 +49,7 @@ void check_filled(const struct shape *shape, const uint8_t *placed_flags, const 
 /* Asks what `pack` needs, and answers with its shape, or with a small one where that is refused or too large. */
 struct shape shape_in_pack(void);
 
-/* Leaves in `pack` a job with this file. */
+/* Leaves in `pack` a job with this file, with the shape's number of used data cells where it has one. */
 void lend_job(const struct shape *shape, const uint8_t *bytes, size_t len, uint8_t choice);
 
 /* Writes what stands in `pack` to `output`. */

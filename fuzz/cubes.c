@@ -41,11 +41,13 @@ void fuzz_fill(struct input input, uint8_t choice)
     const size_t *l = shape.length;
     next_cube(&input, &shape, choice);
     lend(&flags, near(cells_of(&shape), choice, 0), choice);
-    uint8_t share = next_byte(&input);
-    for (size_t i = 0; i < flags.len; i++)
-        flags.bytes[i] = (input.len > 0 ? next_byte(&input) : flags.bytes[i]) < share;
-    if (share == 0xFF && flags.len > 0)
-        flags.bytes[next_byte(&input) % flags.len] = 2;
+    uint8_t share = next_byte(&input), bad = next_byte(&input);
+    for (size_t i = 0; i < flags.len; i++) {
+        uint8_t byte = input.len > 0 ? next_byte(&input) : flags.bytes[i];
+        flags.bytes[i] = byte < share ? 1 : byte % 4 == 3 ? 2 : 0;
+    }
+    if (bad > 0xF0 && flags.len > 0)
+        flags.bytes[next_byte(&input) % flags.len] = bad % 8;
     remember(&flags);
     uint64_t answer =
         jibrufath_fill(cube.bytes, cube.len, flags.bytes, flags.len, l[0], l[1], l[2], shape.w);
@@ -56,7 +58,7 @@ void fuzz_fill(struct input input, uint8_t choice)
     }
     require(kept(&flags), "the flags");
     for (size_t i = 0; i < cube.len; i++) {
-        int cleared = answer == JIBRUFATH_CONTRADICTION && flags.bytes[i / shape.w];
+        int cleared = answer == JIBRUFATH_CONTRADICTION && flags.bytes[i / shape.w] == 1;
         require(cube.bytes[i] == (cleared ? 0 : cube.before[i]), "a cube that is not filled");
     }
 }
@@ -97,8 +99,8 @@ void fuzz_mend(struct input input, uint8_t choice)
     next_cube(&input, &shape, choice);
     lend(&flags, near(cells_of(&shape), choice, 0), choice);
     lend(&output, near(cube.len, choice, 1), choice);
-    memset(flags.bytes, 0, flags.len);
     uint8_t flag = next_byte(&input);
+    memset(flags.bytes, flag & 4 ? 2 : 0, flags.len);
     if (flag >= 0xF0 && flags.len > 0)
         flags.bytes[next_byte(&input) % flags.len] = flag % 4;
     remember(&flags);
@@ -182,7 +184,7 @@ void fuzz_sizes(struct input input, uint8_t choice)
     uint64_t capacity = jibrufath_capacity(number[0], number[1], number[2], number[3]);
     uint64_t size = jibrufath_pack_bytes(number[0], number[1], number[2], number[3]);
     note(SIZES, cells, 0x000F); /* 0 to 3 */
-    struct shape shape = {{number[0], number[1], number[2]}, number[3]};
+    struct shape shape = {{number[0], number[1], number[2]}, number[3], 0};
     if (jibrufath_number(cells) != JIBRUFATH_OK) {
         require(bytes == cells && capacity == cells && size == cells, "one refusal for a shape");
         lend(&cube, 5, choice);

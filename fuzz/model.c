@@ -12,9 +12,38 @@ size_t cells_of(const struct shape *shape)
     return shape->length[0] * shape->length[1] * shape->length[2];
 }
 
+size_t data_cells_of(const struct shape *shape)
+{
+    return (shape->length[0] - 2) * (shape->length[1] - 2) * (shape->length[2] - 2);
+}
+
 size_t capacity_of(const struct shape *shape)
 {
-    return shape->w * (shape->length[0] - 2) * (shape->length[1] - 2) * (shape->length[2] - 2);
+    return shape->w * data_cells_of(shape);
+}
+
+size_t used_of(const struct shape *shape)
+{
+    return shape->used == 0 ? data_cells_of(shape) : shape->used;
+}
+
+size_t sent_of(const struct shape *shape)
+{
+    return cells_of(shape) - data_cells_of(shape) + used_of(shape);
+}
+
+int is_unsent(const struct shape *shape, size_t cell)
+{
+    size_t rank = 0, stride = 1;
+    for (int axis = 0; axis < 3; axis++) {
+        size_t length = shape->length[axis], place = cell % length;
+        if (place >= length - 2)
+            return 0;
+        rank += stride * place;
+        stride *= length - 2;
+        cell /= length;
+    }
+    return rank >= used_of(shape);
 }
 
 /* Visits every line, and says how often the visits answered 1. */
@@ -36,7 +65,7 @@ static size_t flagged(const uint8_t *flags, struct line line)
 {
     size_t count = 0;
     for (size_t i = 0; i < line.len; i++)
-        count += flags[line.first + i * line.stride];
+        count += flags[line.first + i * line.stride] == 1;
     return count;
 }
 
@@ -48,7 +77,8 @@ static int peel_line(const struct shape *shape, struct line line, void *state)
     if (count == 0 || count > 2)
         return 0;
     for (size_t i = 0; i < line.len; i++)
-        flags[line.first + i * line.stride] = 0;
+        if (flags[line.first + i * line.stride] == 1)
+            flags[line.first + i * line.stride] = 0;
     return 1;
 }
 

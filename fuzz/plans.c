@@ -234,7 +234,7 @@ static void receive_plan(const struct shape *shape, uint8_t choice, enum call ca
     memset(entries, 0xEE, sizeof entries);
     uint64_t answer = jibrufath_receive_plan(pack.bytes, pack.len, cube.bytes, cube.len, flags.bytes, flags.len, file.bytes, file.len,
         closures.bytes, closures.len, fibres.bytes, fibres.len, splices.bytes, splices.len, counts, entries);
-    note(call, answer, 0x46FDF); /* 0 to 4, 6 to 11, 13, 14, 18 */
+    note(call, answer, 0xC6FDF); /* 0 to 4, 6 to 11, 13, 14, 18, 19 */
     require(answer == expected, "what the receiver of plans answers");
     require(kept(&pack), "the pack");
     require(memcmp(left.cube, cube.bytes, cube.len) == 0 && memcmp(left.flags, flags.bytes, flags.len) == 0, "the cube and the flags");
@@ -254,7 +254,8 @@ void fuzz_receive_plan(struct input input, uint8_t choice)
     receive_plan(&shape, choice, RECEIVE_PLAN);
 }
 
-/* A plan as it is or with bytes changed, written to packets, of which some are lost, and received. */
+/* A plan as it is or with bytes changed, written to packets, of which some are lost, and received; perhaps without the data cells that
+ * it does not reach. */
 void fuzz_return_plan(struct input input, uint8_t choice)
 {
     static uint8_t made[LENT_MOST];
@@ -265,6 +266,8 @@ void fuzz_return_plan(struct input input, uint8_t choice)
         shape.w = (4 + len + data_cells - 1) / data_cells;
     if (shape.w > 1024 || cells_of(&shape) * shape.w > MOST_BYTES)
         return;
+    if (choice & 4)
+        shape.used = (4 + len + shape.w - 1) / shape.w;
     lend_job(&shape, made, len, choice);
     require(write_job(&shape, 0, RETURN_PLAN) == JIBRUFATH_OK, "packets of a plan");
     lose(&input, &shape);

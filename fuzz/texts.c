@@ -105,6 +105,8 @@ static uint64_t write_text(uint8_t choice, enum call call)
 {
     uint64_t size = jibrufath_text_bytes(pack.bytes, pack.len);
     note(TEXT_SIZES, size, 0x07CF); /* 0 to 3, 6 to 10 */
+    int other_count = pack.len >= 4 && memcmp(pack.bytes, "\5\0\0", 4) != 0;
+    require(other_count == (size == JIBRUFATH_HEADER_COUNT), "no text of another count than 5");
     int sized = jibrufath_number(size) == JIBRUFATH_OK;
     size_t exact = sized ? jibrufath_count(size) : HEAD, other = choice & 2 ? exact + 1 : exact - 1;
     require(write_to(other, choice, call) == (sized ? JIBRUFATH_SLICE_LENGTH : size), "another length");
