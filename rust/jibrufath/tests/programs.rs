@@ -12,6 +12,9 @@ use reference::programs;
 use reference::random::Random;
 use reference::write::data_string;
 
+/// What is printed for an input, a cube or a written pack above 65,536 bytes.
+const TOO_BIG: &[u8] = b"too big\n";
+
 /// Packs of each kind that both programs are given.
 const OF_A_KIND: usize = 30;
 
@@ -151,5 +154,62 @@ fn large_cubes() {
         // 8 comes before the place of 4.
         let after = [pack(shape, &[], &[]), vec![0]].concat();
         compare_printed(&what, &after);
+    }
+}
+
+/// With unsent cells the pack may be below 65,536 bytes where its cube is above, or where the pack of all cells is: both are compared.
+#[test]
+fn cubes_and_packs_with_unsent_cells() {
+    let mut random = Random::new(6004);
+    // The shape, the used data cells, and the length of the pack that is written; none where the cube or the pack is too big.
+    for (l1, l2, l3, w, used, written) in [
+        (16, 16, 16, 16, 2744, None), // a pack of 77,845 bytes, a cube of 65,536
+        (16, 16, 16, 16, 1, Some(25_728)), // the same cube
+        (17, 16, 16, 16, 1, None),    // a cube of 69,632, a pack of 26,868
+        (19, 19, 39, 2, 9717, Some(65_536)), // a cube of 28,158
+        (19, 19, 39, 2, 9718, None),  // a pack of 65,541
+        (3, 13, 39, 41, 375, None),   // a pack of 65,537
+        (3, 13, 39, 41, 374, Some(65_493)), //
+        (255, 255, 255, 16, 1, None), // the most cells
+        (128, 128, 16, 1024, 1, None), // the most bytes
+    ] {
+        let header = Shape::new(l1, l2, l3, w).used(used);
+        let what = format!("{header:?}");
+        let job = pack(header, &[1, 2, 3], &[]);
+        compare_printed(&what, &job);
+        let printed = printed("write", &job);
+        let len = (printed != TOO_BIG).then_some(printed.len());
+        assert_eq!(len, written, "{what}");
+        if header.shape.cube_bytes() > 100_000 {
+            continue;
+        }
+        let source = Source::with_file(&mut random, header);
+        let mut some = header.sent();
+        some.retain(|_| random.chance(80));
+        compare_printed(&what, &source.air(&mut random, some));
+        compare_printed(&what, &pack(header, &[], &[]));
+    }
+}
+
+/// Unsent cells are no holes, and the shape's line is as without them.
+#[test]
+fn holes_are_cells_that_were_sent() {
+    let shape = Shape::new(5, 5, 5, 4);
+    let nothing = pack(shape.used(1), &[], &[]);
+    compare_printed("no packet", &nothing);
+    let text = String::from_utf8(printed("receive", &nothing)).expect("text");
+    let starts = "shape 5 5 5 4\npackets 0\nrepeats 0\nleft 27\nhole 0 0 0\nhole 3 0 0\n";
+    assert!(text.starts_with(starts), "{text}");
+    assert_eq!(text.lines().count(), 4 + 27);
+
+    for (used, file, printed_by_write) in [
+        (0, 0, "refused 19\n"),
+        (28, 0, "refused 19\n"),
+        (1, 1, "refused 19\n"),
+        (27, 105, "refused 10\n"),
+    ] {
+        let job = pack(shape.used(used), &vec![7; file], &[]);
+        compare_printed("refused", &job);
+        assert_eq!(printed("write", &job), printed_by_write.as_bytes());
     }
 }
