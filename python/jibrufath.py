@@ -361,8 +361,8 @@ def default_limit(pack: ReadableBuffer) -> int:
     for a cube of any size. A pack with every packet that is sent never takes 80 times its bytes; for one that lost most
     of them in a big cube, `receive` takes a larger limit.
 
-    >>> default_limit(bytes(17)), default_limit(bytes(100_000))
-    (1048576, 2800000)
+    >>> default_limit(bytes(17)), default_limit(bytes(100_000)), default_limit(bytes([9]) * 100_000)
+    (1048576, 2800000, 8000000)
     """
     air = _read(pack)
     times = 80 if len(air) > 0 and air[0] == _USED else 28

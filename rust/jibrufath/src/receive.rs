@@ -299,6 +299,9 @@ impl<F> Reception<F> {
 ///
 /// assert_eq!(default_limit(&[0; 17]), 1_048_576);
 /// assert_eq!(default_limit(&[0; 100_000]), 2_800_000);
+///
+/// // Section 1 has count 9.
+/// assert_eq!(default_limit(&[9; 100_000]), 8_000_000);
 /// ```
 pub fn default_limit(air: &[u8]) -> usize {
     const LEAST: usize = 1 << 20;

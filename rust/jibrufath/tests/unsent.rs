@@ -235,6 +235,43 @@ fn counts_of_section_1() {
     }
 }
 
+/// The output has the packets of the cells that are sent; the other slices are as long as without the number.
+#[test]
+fn slices_of_other_lengths() {
+    let header = SMALL.used(5);
+    let exact = Lens::exact(header);
+    assert_eq!(exact.output, 21 + 101 * 6);
+    let all = Lens::exact(SMALL);
+    assert_eq!(
+        [exact.cube, exact.flags, exact.file],
+        [all.cube, all.flags, all.file]
+    );
+    let answers = |lens: Lens| {
+        let pack = pack(header, &[], &[]);
+        let Answers { write, receive } = tried(&format!("{lens:?}"), &Trial { pack, lens });
+        [write.err(), receive.err().map(|refusal| refusal.number)]
+    };
+    assert_eq!(answers(exact), [None; 2]);
+    // The pack of all cells, of a cell more or less, of count 5, and a byte more or less.
+    for output in [
+        all.output,
+        exact.output + 6,
+        exact.output - 6,
+        17 + 101 * 6,
+        0,
+        626,
+        628,
+    ] {
+        assert_eq!(answers(Lens { output, ..exact }), [Some(4), None]);
+    }
+    for less in 1..=3 {
+        let [cube, flags, file] = [exact.cube, exact.flags, exact.file].map(|len| len - less);
+        assert_eq!(answers(Lens { cube, ..exact }), [Some(4); 2]);
+        assert_eq!(answers(Lens { flags, ..exact }), [None, Some(4)]);
+        assert_eq!(answers(Lens { file, ..exact }), [None, Some(4)]);
+    }
+}
+
 /// Of the data cells 0, 1, 4, 5, 8, 9 in the first plane, 5, 8 and 9 are unsent, as all in the planes behind.
 #[test]
 fn packets_for_unsent_cells() {
