@@ -9,11 +9,12 @@
 #include <ucontext.h>
 
 enum { STACK = 1 << 18, PAINT = 0xA5 };
-enum call { NOTHING, ENCODE, EXTRACT, CHECK, FILL, SCAN, MEND, MEND_AXIS, WRITE_PACK, RECEIVE_PACK, NEEDS, WRITE_TEXT, READ_TEXT, TEXT_SIZES,
-    WRITE_PLAN, MEASURE_PLAN, READ_PLAN, RECEIVE_PLAN, SIZES, FIELD, CALLS };
+enum call { NOTHING, ENCODE, EXTRACT, CHECK, FILL, SCAN, MEND, MEND_AXIS, WRITE_PACK, RECEIVE_PACK, WRITE_USED, RECEIVE_USED, NEEDS, WRITE_TEXT,
+    READ_TEXT, TEXT_SIZES, WRITE_PLAN, MEASURE_PLAN, READ_PLAN, RECEIVE_PLAN, SIZES, FIELD, CALLS };
 
 static const char *const names[CALLS] = {"", "encode", "extract", "is_code_cube", "fill", "scan", "mend", "mend_axis", "write_pack", "receive_pack",
-    "needs", "write_text", "read_text", "text sizes", "write_plan", "measure_plan", "read_plan", "receive_plan", "sizes", "field"};
+    "write_pack, unsent cells", "receive_pack, unsent cells", "needs", "write_text", "read_text", "text sizes", "write_plan", "measure_plan",
+    "read_plan", "receive_plan", "sizes", "field"};
 
 static const uint64_t shapes[][4] = {{3, 3, 3, 5}, {5, 5, 5, 16}, {4, 4, 4, 63}, {12, 12, 8, 20}, {9, 9, 9, 1024}, {255, 3, 3, 1024},
     {3, 255, 3, 1024}, {3, 3, 255, 1024}, {255, 255, 3, 1}, {20, 20, 10, 397}, {40, 40, 40, 64}, {69, 69, 25, 397}};
@@ -26,6 +27,9 @@ static uint8_t listed[3][SPLICES_LEN], written[PLAN];
 /* A shape, its sizes, and the memory that its calls are lent. */
 static uint64_t l1, l2, l3, w, cells, bytes, capacity, output_len, job_len, text_len;
 static uint8_t *cube, *second, *flags, *data, *file, *output, *job, *text;
+/* The same file with no more used data cells than it takes. */
+static uint64_t used_job_len, used_output_len;
+static uint8_t *used_job, *used_output;
 static enum call measured;
 static uint64_t answer;
 
@@ -47,7 +51,11 @@ static void make_call(void)
     case RECEIVE_PACK:
         answer = jibrufath_receive_pack(output, output_len, cube, bytes, flags, cells, file, capacity - 4, places);
         break;
-    case NEEDS: answer = jibrufath_needs(job, job_len, places); break;
+    case WRITE_USED: answer = jibrufath_write_pack(used_job, used_job_len, cube, bytes, used_output, used_output_len); break;
+    case RECEIVE_USED:
+        answer = jibrufath_receive_pack(used_output, used_output_len, cube, bytes, flags, cells, file, capacity - 4, places);
+        break;
+    case NEEDS: answer = jibrufath_needs(used_job, used_job_len, places); break;
     case WRITE_TEXT: answer = jibrufath_write_text(output, output_len, text, text_len); break;
     case READ_TEXT: answer = jibrufath_read_text(text, text_len, output, output_len); break;
     case TEXT_SIZES:
@@ -98,6 +106,20 @@ static uint8_t *lend(uint64_t len)
     return memory;
 }
 
+/* Makes the job pack that has the number of used data cells behind its shape, and lends memory for its packets. */
+static void begin_used(uint8_t file_len)
+{
+    uint64_t needs[16], used = (4 + file_len + w - 1) / w;
+    used_job_len = job_len + 4;
+    used_job = lend(used_job_len);
+    memcpy(used_job, job, 9);
+    memcpy(used_job + 13, job + 9, job_len - 9);
+    used_job[0] = 9, used_job[9] = (uint8_t)used;
+    jibrufath_needs(used_job, used_job_len, needs);
+    used_output_len = needs[JIBRUFATH_NEED_PACK_BYTES];
+    used_output = lend(used_output_len);
+}
+
 /* Lends all memory for a shape, with a job pack of the plan, or of no byte where there is no room for it, and all its packets in output. */
 static void begin(const uint64_t shape[4])
 {
@@ -120,6 +142,7 @@ static void begin(const uint64_t shape[4])
     jibrufath_write_pack(job, job_len, cube, bytes, output, output_len);
     text_len = jibrufath_count(jibrufath_text_bytes(output, output_len));
     text = lend(text_len);
+    begin_used(file_len);
 }
 
 /* What a call is to work on: a code cube with cells to fill or a wrong byte to mend. */
@@ -146,6 +169,7 @@ int main(void)
                 return 1;
         }
         free(cube), free(second), free(flags), free(data), free(file), free(output), free(job), free(text);
+        free(used_job), free(used_output);
     }
     for (enum call call = ENCODE; call < CALLS; call++)
         printf("%s %zu\n", names[call], most[call]);
