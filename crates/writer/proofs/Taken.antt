@@ -5,8 +5,8 @@ use Prim.Native.Nat.{ℕ, _+_, _*_, _≤_}
 use lib.Dec.{eqb}
 use lib.ListN.{length}
 use borrow.Author.Tests.{eq-eqb}
-use Rattle.answer.specs.Values.{Value, refused, Checked, passes, fails, check, andThen}
-use Rattle.answer.proofs.Values.{passes-injective, passes-fails}
+use Rattle.answer.specs.Values.{Value, refused, passes, check, andThen}
+use Rattle.answer.proofs.Values.{passes-injective, fails-injective, passes-fails}
 use Rattle.shape.specs.Shapes.{cells, capacity, sizes}
 use Rattle.shape.proofs.Valid.{both-true}
 use Rattle.pack.specs.declared.Header.{Header}
@@ -23,14 +23,11 @@ written-determined r h file xs out ys put v w =
     let same : xs ≡ ys = w .cube .only xs (v .cube .code) (v .cube .holds) in
     (same, v .pack ∙ ap (λ (zs : List ℕ). airPack h (sentPackets h zs)) same ∙ sym (w .pack))
 
-fails-number : {A : Type 0} (n m : ℕ) → _≡_ {A = Checked A} (fails n) (fails m) → n ≡ m
-fails-number n m e = cc
-
 -- the contract determines the answer and every lent byte
 pub write-determined : (r : ℕ) (p xs out xs₁ out₁ xs₂ out₂ : List ℕ) (a b : Value Unit) → WriteOutcome r p xs out xs₁ out₁ a
     → WriteOutcome r p xs out xs₂ out₂ b → (a ≡ b) × (xs₁ ≡ xs₂) × (out₁ ≡ out₂)
 write-determined r p xs out xs₁ out₁ xs₂ out₂ a b (write-refused n e c d) (write-refused m f g h) =
-    (ap refused (fails-number n m (sym e ∙ f)), c ∙ sym g, d ∙ sym h)
+    (ap refused (fails-injective n m (sym e ∙ f)), c ∙ sym g, d ∙ sym h)
 write-determined r p xs out xs₁ out₁ xs₂ out₂ a b (write-refused n e c d) (write-done h s f w) = absurd (passes-fails (h, s) n (sym f ∙ e))
 write-determined r p xs out xs₁ out₁ xs₂ out₂ a b (write-done h s f w) (write-refused n e c d) = absurd (passes-fails (h, s) n (sym f ∙ e))
 write-determined r p xs out xs₁ out₁ xs₂ out₂ a b (write-done h s f v) (write-done k t g w) =
