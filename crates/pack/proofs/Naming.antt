@@ -1,6 +1,6 @@
 -- Packets as they stand in a pack, and those that name a cell: what the calls answer, and what a pack that was read needs of them.
 use mathlib.Core.Path.{_≡_, refl, sym, ap, _∙_}
-use mathlib.Core.Bool.{Bool, true, false, cond, false≢true}
+use mathlib.Core.Bool.{Bool, true, false, cond, false≢true, true≢false}
 use mathlib.Core.List.{List}
 use Prim.Native.Nat.{ℕ, _+_, _-_, _*_, _^_, _≤_, _<_}
 use native.Mathlib.Nat.{mul-le-mul}
@@ -10,7 +10,7 @@ use lib.ListN.{length, getD}
 use borrow.Author.Tests.{leb-true, le-leb, ltb-true, lt-ltb, not-true}
 use Rattle.answer.specs.Values.{passes}
 use Rattle.shape.specs.declared.Shape.{Shape}
-use Rattle.shape.specs.Shapes.{both, cells}
+use Rattle.shape.specs.Shapes.{both, cells, cell}
 use Rattle.shape.proofs.Valid.{both-parts, both-true}
 use Rattle.shape.proofs.Geometry.{cell-lt-cells}
 use Rattle.span.proofs.Stretches.{stretch-end}
@@ -22,8 +22,8 @@ use Rattle.pack.specs.declared.PartsRead.{PartsRead}
 use Rattle.pack.specs.declared.PartsRead.the-variants.{Parts, Absent as NoParts}
 use Rattle.pack.specs.Packs.{unsent, sends}
 use Rattle.pack.specs.Reading.{packetSize, airOf}
-use Rattle.pack.specs.Packets.{packetAt, packetIn, source, Stands, PartsOutcome, standing, not-standing, InRange, Named, PacketOutcome, named, unnamed}
-use Rattle.pack.specs.Inner.Packets.{withinLimits, namedBy}
+use Rattle.pack.specs.Packets.{packetAt, packetIn, source, Stands, PartsOutcome, standing, not-standing, OnCube, InRange, Named, PacketOutcome, named, unnamed, FirstOutside}
+use Rattle.pack.specs.Inner.Packets.{withinLimits, namedBy, FirstOff}
 use Rattle.pack.proofs.Sound.{air-sound}
 
 -- ---- the limits of a packet
@@ -95,39 +95,38 @@ module _ (p : List ℕ) (h : Header) (s : Section) (i : ℕ) where
   parts-standing a b c at r (standing n) e = n
   parts-standing a b c at r (not-standing never) e = let z : _≡_ {A = ℕ} 0 1 = cc in absurd (omega arith)
 
+pub parts-gone : (p : List ℕ) (h : Header) (s : Section) (i : ℕ) (r : PartsRead) → PartsOutcome p h s i r → r ≡ NoParts → Stands p h s i → ⊥
+parts-gone p h s i r (standing n) e m = let z : _≡_ {A = ℕ} 0 1 = cc in omega arith
+parts-gone p h s i r (not-standing never) e m = never m
+
 -- ---- the cell of a packet
 
--- check 11 as one test
+-- the coordinates as one test
 unfoldable coordinates : List ℕ → Header → Section → ℕ → Bool
 coordinates p h s i =
     both (ltb (getD p (packetAt h s i) 0) (h .shape .l1))
-    (both (ltb (getD p (packetAt h s i + 1) 0) (h .shape .l2))
-    (both (ltb (getD p (packetAt h s i + 2) 0) (h .shape .l3)) (sends h (source p h s .place i))))
+    (both (ltb (getD p (packetAt h s i + 1) 0) (h .shape .l2)) (ltb (getD p (packetAt h s i + 2) 0) (h .shape .l3)))
 
 module _ (p : List ℕ) (h : Header) (s : Section) (i : ℕ) where
   -- what does not stand in the pack names no cell
   pub parts-absent : (r : PartsRead) → PartsOutcome p h s i r → r ≡ NoParts → PacketOutcome p h s i Absent
   parts-absent r (standing n) e = let z : _≡_ {A = ℕ} 0 1 = cc in absurd (omega arith)
-  parts-absent r (not-standing never) e = unnamed (λ (n : Named p h s i). never (n .stands))
+  parts-absent r (not-standing never) e = unnamed (λ (n : OnCube p h s i). never (n .stands))
 
   tested : Stands p h s i → (t : Bool) → coordinates p h s i ≡ t
       → PacketOutcome p h s i (cond t (Names (source p h s .place i) (packetAt h s i + 3)) Absent)
   unfolding coordinates
   tested n true e =
       let (a, bc) = both-parts (ltb (getD p (packetAt h s i) 0) (h .shape .l1)) _ e in
-      let (b, cd) = both-parts (ltb (getD p (packetAt h s i + 1) 0) (h .shape .l2)) _ bc in
-      let (c, d) = both-parts (ltb (getD p (packetAt h s i + 2) 0) (h .shape .l3)) (sends h (source p h s .place i)) cd in
-      named (record { stands = n; range = record { first = ltb-true _ _ a; second = ltb-true _ _ b; third = ltb-true _ _ c; sent = d } })
+      let (b, c) = both-parts (ltb (getD p (packetAt h s i + 1) 0) (h .shape .l2)) (ltb (getD p (packetAt h s i + 2) 0) (h .shape .l3)) bc in
+      named (record { stands = n; first = ltb-true _ _ a; second = ltb-true _ _ b; third = ltb-true _ _ c })
   tested n false e =
-      unnamed (λ (m : Named p h s i).
-      let r = m .range in
-      false≢true
-      (sym e
-      ∙ both-true _ _ (lt-ltb _ _ (r .first)) (both-true _ _ (lt-ltb _ _ (r .second)) (both-true _ _ (lt-ltb _ _ (r .third)) (r .sent)))))
+      unnamed (λ (m : OnCube p h s i).
+      false≢true (sym e ∙ both-true _ _ (lt-ltb _ _ (m .first)) (both-true _ _ (lt-ltb _ _ (m .second)) (lt-ltb _ _ (m .third)))))
 
-  -- the parts of a packet name its cell, where they pass check 11
+  -- the parts of a packet name its cell, where they are below their lengths
   pub parts-named : (a b c at : ℕ) (q : PartsRead) (r : PacketRead) → PartsOutcome p h s i q → q ≡ Parts a b c at
-      → r ≡ namedBy h a b c at → PacketOutcome p h s i r
+      → r ≡ namedBy (h .shape) a b c at → PacketOutcome p h s i r
   unfolding namedBy packetIn source coordinates
   parts-named a b c at q r (standing n) e f =
       let first : a ≡ getD p (packetAt h s i) 0 = cc in
@@ -137,23 +136,56 @@ module _ (p : List ℕ) (h : Header) (s : Section) (i : ℕ) where
       rw (f, first, second, third, behind) (tested n (coordinates p h s i) refl)
   parts-named a b c at q r (not-standing never) e f = let z : _≡_ {A = ℕ} 0 1 = cc in absurd (omega arith)
 
+  -- a packet on the cube passes check 11 where its cell is sent
+  pub on-cube : Named p h s i → OnCube p h s i
+  on-cube n = record { stands = n .stands; first = n .range .first; second = n .range .second; third = n .range .third }
+
+  pub cube-sent : OnCube p h s i → unsent h (source p h s .place i) ≡ false → Named p h s i
+  unfolding sends
+  cube-sent n e = record { stands = n .stands; range = record { first = n .first; second = n .second; third = n .third; sent = rw e } }
+
+  -- the parts of a packet on the cube: whether its cell is sent
+  pub parts-unsent : (a b c at : ℕ) (q : PartsRead) (r : Bool) → PartsOutcome p h s i q → q ≡ Parts a b c at
+      → r ≡ unsent h (cell (h .shape) a b c) → r ≡ unsent h (source p h s .place i)
+  unfolding packetIn source
+  parts-unsent a b c at q r (standing n) e f =
+      let first : a ≡ getD p (packetAt h s i) 0 = cc in
+      let second : b ≡ getD p (packetAt h s i + 1) 0 = cc in
+      let third : c ≡ getD p (packetAt h s i + 2) 0 = cc in
+      rw (first, second, third) at f
+  parts-unsent a b c at q r (not-standing never) e f = let z : _≡_ {A = ℕ} 0 1 = cc in absurd (omega arith)
+
+  pub parts-range : (a b c at : ℕ) (q : PartsRead) → PartsOutcome p h s i q → q ≡ Parts a b c at → OnCube p h s i
+      → (a < h .shape .l1) × (b < h .shape .l2) × (c < h .shape .l3)
+  unfolding packetIn
+  parts-range a b c at q (standing n) e m =
+      let first : a ≡ getD p (packetAt h s i) 0 = cc in
+      let second : b ≡ getD p (packetAt h s i + 1) 0 = cc in
+      let third : c ≡ getD p (packetAt h s i + 2) 0 = cc in
+      rw (first, second, third) (m .first, m .second, m .third)
+  parts-range a b c at q (not-standing never) e m = absurd (never (m .stands))
+
 -- ---- for callers
 
 -- a packet that stands in its pack and names a cell is answered so
 pub packet-named : (p : List ℕ) (h : Header) (s : Section) (i : ℕ) (r : PacketRead) → PacketOutcome p h s i r → Named p h s i
     → r ≡ Names (source p h s .place i) (packetAt h s i + 3)
 packet-named p h s i r (named n) m = refl
-packet-named p h s i r (unnamed never) m = absurd (never m)
+packet-named p h s i r (unnamed never) m = absurd (never (on-cube p h s i m))
 
 pub packet-names : (p : List ℕ) (h : Header) (s : Section) (i n from : ℕ) (r : PacketRead) → PacketOutcome p h s i r → r ≡ Names n from
-    → Named p h s i
+    → OnCube p h s i
 packet-names p h s i n from r (named m) e = m
 packet-names p h s i n from r (unnamed never) e = let z : _≡_ {A = ℕ} 0 1 = cc in absurd (omega arith)
 
+pub packet-off : (p : List ℕ) (h : Header) (s : Section) (i : ℕ) (r : PacketRead) → PacketOutcome p h s i r → r ≡ Absent
+    → OnCube p h s i → ⊥
+packet-off p h s i r (named m) e = let z : _≡_ {A = ℕ} 0 1 = cc in absurd (omega arith)
+packet-off p h s i r (unnamed never) e = never
+
 pub packet-absent : (p : List ℕ) (h : Header) (s : Section) (i : ℕ) (r : PacketRead) → PacketOutcome p h s i r → r ≡ Absent
     → Named p h s i → ⊥
-packet-absent p h s i r (named m) e = let z : _≡_ {A = ℕ} 0 1 = cc in absurd (omega arith)
-packet-absent p h s i r (unnamed never) e = never
+packet-absent p h s i r o e n = packet-off p h s i r o e (on-cube p h s i n)
 
 -- all packets of a pack that was read stand in it: they name a cell where they pass check 11
 pub air-named : (p : List ℕ) (h : Header) (s : Section) (i : ℕ) → airOf p ≡ passes (h, s) → ((k : ℕ) → getD p k 0 < 256) → i < s .count
@@ -196,3 +228,38 @@ packet-told p h s i n from r (unnamed never) e = let z : _≡_ {A = ℕ} 0 1 = c
 pub place-sent : (p : List ℕ) (h : Header) (s : Section) (i : ℕ) → InRange p h s i → unsent h (source p h s .place i) ≡ false
 unfolding sends
 place-sent p h s i r = not-true (unsent h (source p h s .place i)) (r .sent)
+
+-- ---- check 11
+
+-- with every cell sent the coordinates decide
+pub off-outside : (p : List ℕ) (h : Header) (s : Section) (r : ℕ) → FirstOff p h s r
+    → ((n : ℕ) → n < cells (h .shape) → unsent h n ≡ false) → FirstOutside p h s r
+unfolding source
+off-outside p h s r off all =
+    record {
+      bound = off .bound;
+      before = λ i l.
+          let m = off .before i l in
+          cube-sent p h s i m (all _ (cell-lt-cells (h .shape) _ _ _ (m .first) (m .second) (m .third)));
+      here = λ l n. off .here l (on-cube p h s r n);
+    }
+
+-- the first packet for a cell that is not sent comes before the first off the cube
+pub unsent-outside : (p : List ℕ) (h : Header) (s : Section) (i r : ℕ) → FirstOff p h s r → i < r
+    → ((j : ℕ) → j < i → unsent h (source p h s .place j) ≡ false) → unsent h (source p h s .place i) ≡ true → FirstOutside p h s i
+unfolding sends
+unsent-outside p h s i r off l before e =
+    record {
+      bound = omega (arith, off .bound);
+      before = λ j less. cube-sent p h s j (off .before j (omega arith)) (before j less);
+      here = λ _ n. true≢false (sym e ∙ not-true (unsent h (source p h s .place i)) (n .range .sent));
+    }
+
+pub none-unsent : (p : List ℕ) (h : Header) (s : Section) (r : ℕ) → FirstOff p h s r
+    → ((j : ℕ) → j < r → unsent h (source p h s .place j) ≡ false) → FirstOutside p h s r
+none-unsent p h s r off before =
+    record {
+      bound = off .bound;
+      before = λ j less. cube-sent p h s j (off .before j less) (before j less);
+      here = λ l n. off .here l (on-cube p h s r n);
+    }

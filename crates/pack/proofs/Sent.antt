@@ -83,15 +83,18 @@ module _ (h : Header) (z : Sizes) (measured : z ≡ sizes (h .shape)) (all : ℕ
   unsent-fit = rw (measured, same) (omega (arith, data-cells-le (h .shape)))
 
 -- with every data cell in use all cells are sent
-pub all-sent : (h : Header) → h .used ≡ dataCells (h .shape) → (n : ℕ) → n < cells (h .shape) → unsent h n ≡ false
+pub enough-sent : (h : Header) → dataCells (h .shape) ≤ h .used → (n : ℕ) → n < cells (h .shape) → unsent h n ≡ false
 unfolding unsent both
-all-sent h e n l =
+enough-sent h e n l =
     ⊎-elim
     (λ member.
     let rank : number (dataCell (h .shape)) n < dataCells (h .shape) =
     omega (arith, rank-lt (dataCell (h .shape)) n (cells (h .shape)) l member, data-number (h .shape)) in
     rw member (lt-leb (h .used) (number (dataCell (h .shape)) n) (omega arith)))
     (λ other. rw other) (true-or-false (dataCell (h .shape) n))
+
+pub all-sent : (h : Header) → h .used ≡ dataCells (h .shape) → (n : ℕ) → n < cells (h .shape) → unsent h n ≡ false
+all-sent h e = enough-sent h (omega arith)
 
 -- ---- their list
 

@@ -75,6 +75,18 @@ pub data PartsOutcome (p : List ℕ) (h : Header) (s : Section) (i : ℕ) : Part
       PartsOutcome p h s i (Parts (packetIn p h s i .a) (packetIn p h s i .b) (packetIn p h s i .c) (packetAt h s i + 3))
   not-standing : (Stands p h s i → ⊥) → PartsOutcome p h s i NoParts
 
+-- Packet i stands in the pack and names a cell of the cube.
+pub record OnCube (p : List ℕ) (h : Header) (s : Section) (i : ℕ) : Type 0 where
+  pub stands : Stands p h s i
+  pub first : getD p (packetAt h s i) 0 < h .shape .l1
+  pub second : getD p (packetAt h s i + 1) 0 < h .shape .l2
+  pub third : getD p (packetAt h s i + 2) 0 < h .shape .l3
+
+-- What `packet` answers: the cell and where its bytes begin, or that no packet stands there or names a cell.
+pub data PacketOutcome (p : List ℕ) (h : Header) (s : Section) (i : ℕ) : PacketRead → Type 0 where
+  named : OnCube p h s i → PacketOutcome p h s i (Names (source p h s .place i) (packetAt h s i + 3))
+  unnamed : (OnCube p h s i → ⊥) → PacketOutcome p h s i Absent
+
 -- 11: "a, b or c not below its length" does not hold of packet i. Request P5: "A packet for an unsent cell meets 11."
 pub record InRange (p : List ℕ) (h : Header) (s : Section) (i : ℕ) : Type 0 where
   pub first : getD p (packetAt h s i) 0 < h .shape .l1
@@ -86,11 +98,6 @@ pub record InRange (p : List ℕ) (h : Header) (s : Section) (i : ℕ) : Type 0 
 pub record Named (p : List ℕ) (h : Header) (s : Section) (i : ℕ) : Type 0 where
   pub stands : Stands p h s i
   pub range : InRange p h s i
-
--- What `packet` answers: the cell and where its bytes begin, or that no packet stands there or names a cell that is sent.
-pub data PacketOutcome (p : List ℕ) (h : Header) (s : Section) (i : ℕ) : PacketRead → Type 0 where
-  named : Named p h s i → PacketOutcome p h s i (Names (source p h s .place i) (packetAt h s i + 3))
-  unnamed : (Named p h s i → ⊥) → PacketOutcome p h s i Absent
 
 -- What `first_outside` answers: the first packet that names no cell that is sent, or the count.
 pub record FirstOutside (p : List ℕ) (h : Header) (s : Section) (r : ℕ) : Type 0 where

@@ -161,7 +161,8 @@ fn headed(sh: Shape, n: usize, given: usize, next: Cursor) -> HeaderRead
     }
 }
 
-fn data_cells(sh: Shape) -> usize
+// The data cells of a valid shape.
+pub(crate) fn data_cells(sh: Shape) -> usize
     requires { ⌜ Valid sh ⌝ }
     ensures { λ r. ⌜ r ≡ dataCells sh ⌝ }
 {

@@ -1,9 +1,7 @@
 -- `pack::packets::named` meets its contract. Assumes nothing.
-use mathlib.Core.Path.{sym}
 use native.Mathlib.Omega.{arith}
 use borrow.Author.Tests.{lt-ltb, le-ltb}
 use Rattle.shape.specs.Shapes.{both, cell}
-use Rattle.pack.specs.Packs.{sends}
 use Rattle.pack.specs.Inner.Packets.{namedBy}
 use Rattle.pack.proofs.Naming.{cell-small, cell-fits}
 use Rattle.pack.proofs.packets.named.Statement.{statement}
@@ -21,54 +19,36 @@ returns-3 : tie.Need-returns-3
 unfolding namedBy both
 returns-3 c = rw (lt-ltb _ _ (c .before .before .before .before .if1 .left), lt-ltb _ _ (c .before .before .if2 .left), le-ltb _ _ (c .if3 .taken))
 
-is-unsent-requires : tie.Need-is-unsent-requires
-is-unsent-requires c κs =
+mul-t7 : tie.Need-mul-t7
+mul-t7 c =
     let s = c .before .before .before .before .before .before .before in
-    (s .pre .0, s .pre .1, c .before .before .before .before .if1 .left, c .before .before .if2 .left, c .if3 .left, s .pre .3)
+    omega (arith, cell-small _ _ _ (s .pre .1) (s .pre .2) (s .pre .3))
+
+add-t8 : tie.Need-add-t8
+add-t8 c =
+    let s = c .before .before .before .before .before .before .before in
+    omega (arith, s .pre .2, cell-small _ _ _ (s .pre .1) (s .pre .2) (s .pre .3))
+
+mul-t9 : tie.Need-mul-t9
+mul-t9 c =
+    let s = c .before .before .before .before .before .before .before .before in
+    omega (arith, cell-fits _ _ _ _ (s .pre .0) (s .pre .1) (s .pre .2) (s .pre .3))
+
+add-t10 : tie.Need-add-t10
+add-t10 c =
+    let s = c .before .before .before .before .before .before .before .before in
+    let low = c .before .before .before .before .before .before .if1 .left in
+    omega (arith, low, s .pre .0, cell-fits _ _ _ _ (s .pre .0) (s .pre .1) (s .pre .2) (s .pre .3))
 
 returns-4 : tie.Need-returns-4
-unfolding namedBy both sends
+unfolding namedBy both cell
 returns-4 c =
     rw (
       lt-ltb _ _ (c .before .before .before .before .before .before .if1 .left),
       lt-ltb _ _ (c .before .before .before .before .if2 .left),
       lt-ltb _ _ (c .before .before .if3 .left),
-      sym (c .before .is-unsent .ensures),
-      c .if4 .taken,
-    )
-
-mul-t9 : tie.Need-mul-t9
-mul-t9 c =
-    let s = c .before .before .before .before .before .before .before .before .before .before in
-    omega (arith, cell-small _ _ _ (s .pre .1) (s .pre .2) (s .pre .3))
-
-add-t10 : tie.Need-add-t10
-add-t10 c =
-    let s = c .before .before .before .before .before .before .before .before .before .before in
-    omega (arith, s .pre .2, cell-small _ _ _ (s .pre .1) (s .pre .2) (s .pre .3))
-
-mul-t11 : tie.Need-mul-t11
-mul-t11 c =
-    let s = c .before .before .before .before .before .before .before .before .before .before .before in
-    omega (arith, cell-fits _ _ _ _ (s .pre .0) (s .pre .1) (s .pre .2) (s .pre .3))
-
-add-t12 : tie.Need-add-t12
-add-t12 c =
-    let s = c .before .before .before .before .before .before .before .before .before .before .before in
-    let low = c .before .before .before .before .before .before .before .before .if1 .left in
-    omega (arith, low, s .pre .0, cell-fits _ _ _ _ (s .pre .0) (s .pre .1) (s .pre .2) (s .pre .3))
-
-returns-5 : tie.Need-returns-5
-unfolding namedBy both sends cell
-returns-5 c =
-    rw (
-      lt-ltb _ _ (c .before .before .before .before .before .before .before .before .if1 .left),
-      lt-ltb _ _ (c .before .before .before .before .before .before .if2 .left),
-      lt-ltb _ _ (c .before .before .before .before .if3 .left),
-      sym (c .before .before .before .is-unsent .ensures),
-      c .before .before .if4 .left,
     )
 
 pub named-spec : {M : Type 1} → statement M
 named-spec =
-    tie.close (tie.spec returns returns-2 returns-3 is-unsent-requires returns-4 mul-t9 add-t10 mul-t11 add-t12 returns-5)
+    tie.close (tie.spec returns returns-2 returns-3 mul-t7 add-t8 mul-t9 add-t10 returns-4)
