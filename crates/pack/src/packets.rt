@@ -114,15 +114,15 @@ fn within_limits(sh: Shape, i: usize) -> bool
     sh.l1 <= 255 && (sh.l2 <= 255 && (sh.w <= 1024 && i < 4294967296))
 }
 
-// Whether packet i of those from a place on lies in the pack. In a loop over packets the quotient is taken once, and one comparison a packet is left.
+// Whether packet i of those from a place on lies in the pack. The difference avoids a sum that could wrap.
 fn lies_in(len: usize, at: usize, i: usize, size: usize) -> bool
-    requires { ⌜ 0 < size ⌝ }
+    requires { ⌜ (i < 4294967296) × (size ≤ 1027) ⌝ }
     ensures { λ r. ⌜ (r ≡ true → at + i * size + size ≤ len) × (r ≡ false → len < at + i * size + size) ⌝ }
 {
     if len < at {
         return false;
     }
-    i < (len - at) / size
+    i * size + size <= len - at
 }
 
 // The cell that a, b and c name, where they are below their lengths.
