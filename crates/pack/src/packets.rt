@@ -58,12 +58,12 @@ fn first_unsent(pack: &[u8], h: Header, s: Section, end: usize) -> usize
     requires { ⌜ FirstOff (now pack) h s end ⌝ }
     ensures { λ r. ⌜ FirstOutside (now (pack .entry)) h s r ⌝ }
 {
-    let mut i = 0;
-    while i < end {
-        if names_unsent(pack, h, s, i) {
-            return i;
+    let mut j = 0;
+    while j < end {
+        if names_unsent(pack, h, s, j) {
+            return j;
         }
-        i += 1;
+        j += 1;
     }
     end
 }

@@ -27,8 +27,8 @@ returns : tie.Need-returns Inv-loop μ-loop
 returns c =
     unsent-outside _ _ _ _ _ (c .before .before .before .before .before .pre) (c .before .before .loop-test .taken) (c .before .before .before .loop .inv .1) (sym (c .before .names-unsent .ensures) ∙ c .if1 .taken)
 
-add-i : tie.Need-add-i Inv-loop μ-loop
-add-i c = omega arith
+add-j : tie.Need-add-j Inv-loop μ-loop
+add-j c = omega arith
 
 loop-less : tie.Need-loop-less Inv-loop μ-loop
 loop-less c = omega arith
@@ -38,7 +38,7 @@ loop-again c = (omega arith, below-more _ _ (c .before .before .before .loop .in
 
 returns-2 : tie.Need-returns-2 Inv-loop μ-loop
 returns-2 c =
-    let all : c .before .loop .i ≡ c .before .before .before .args .end = omega arith in
+    let all : c .before .loop .j ≡ c .before .before .before .args .end = omega arith in
     none-unsent _ _ _ _ (c .before .before .before .pre) (rw all at (c .before .loop .inv .1))
 
 pub first-unsent-spec : {M : Type 1} → statement M
@@ -50,7 +50,7 @@ first-unsent-spec =
     loop-holds
     names-unsent-requires
     returns
-    add-i
+    add-j
     loop-less
     loop-again
     returns-2)
