@@ -99,7 +99,6 @@ module _ (p : List ℕ) (h : Header) (s : Section) (read : airOf p ≡ passes (h
         l1-high = v .l1-high;
         l2-high = v .l2-high;
         w-high = v .w-high;
-        index = omega (arith, sound .few small);
         inside = packet-inside i l;
       }
 

@@ -2,7 +2,7 @@
 use mathlib.Core.Path.{_≡_, refl, sym, ap, _∙_}
 use mathlib.Core.Bool.{Bool, true, false, cond, false≢true, true≢false}
 use mathlib.Core.List.{List}
-use Prim.Native.Nat.{ℕ, _+_, _-_, _*_, _^_, _≤_, _<_}
+use Prim.Native.Nat.{ℕ, _+_, _-_, _*_, _≤_, _<_}
 use native.Mathlib.Nat.{mul-le-mul}
 use native.Mathlib.Omega.{arith}
 use lib.Dec.{leb, ltb}
@@ -28,24 +28,21 @@ use Rattle.pack.proofs.Sound.{air-sound}
 
 -- ---- the limits of a packet
 
-pub record Limits (sh : Shape) (i : ℕ) : Type 0 where
+pub record Limits (sh : Shape) : Type 0 where
   pub l1-high : sh .l1 ≤ 255
   pub l2-high : sh .l2 ≤ 255
   pub w-high : sh .w ≤ 1024
-  pub index : i < 2 ^ 32
 
-pub limits-parts : (sh : Shape) (i : ℕ) → withinLimits sh i ≡ true → Limits sh i
+pub limits-parts : (sh : Shape) → withinLimits sh ≡ true → Limits sh
 unfolding withinLimits
-limits-parts sh i t =
-    let (a, bcd) = both-parts (leb (sh .l1) 255) _ t in
-    let (b, cd) = both-parts (leb (sh .l2) 255) _ bcd in
-    let (c, d) = both-parts (leb (sh .w) 1024) (ltb i 4294967296) cd in
-    record { l1-high = leb-true _ _ a; l2-high = leb-true _ _ b; w-high = leb-true _ _ c; index = ltb-true _ _ d }
+limits-parts sh t =
+    let (a, bc) = both-parts (leb (sh .l1) 255) _ t in
+    let (b, c) = both-parts (leb (sh .l2) 255) (leb (sh .w) 1024) bc in
+    record { l1-high = leb-true _ _ a; l2-high = leb-true _ _ b; w-high = leb-true _ _ c }
 
-pub limits-true : (sh : Shape) (i : ℕ) → Limits sh i → withinLimits sh i ≡ true
+pub limits-true : (sh : Shape) → Limits sh → withinLimits sh ≡ true
 unfolding withinLimits
-limits-true sh i l =
-    both-true _ _ (le-leb _ _ (l .l1-high)) (both-true _ _ (le-leb _ _ (l .l2-high)) (both-true _ _ (le-leb _ _ (l .w-high)) (lt-ltb i 4294967296 (l .index))))
+limits-true sh l = both-true _ _ (le-leb _ _ (l .l1-high)) (both-true _ _ (le-leb _ _ (l .l2-high)) (le-leb _ _ (l .w-high)))
 
 -- the products of the limits fit a machine word
 pub cell-small : (l2 b c : ℕ) → l2 ≤ 255 → b < 256 → c < 256 → l2 * c ≤ 65025
@@ -65,10 +62,10 @@ data-fits l1 l2 b c g h p q = cell-fits (l1 - 2) (l2 - 2) b c (omega arith) (ome
 -- ---- the parts of a packet
 
 module _ (p : List ℕ) (h : Header) (s : Section) (i : ℕ) where
-  pub parts-beyond-limits : withinLimits (h .shape) i ≡ false → PartsOutcome p h s i NoParts
+  pub parts-beyond-limits : withinLimits (h .shape) ≡ false → PartsOutcome p h s i NoParts
   parts-beyond-limits t =
       not-standing (λ (n : Stands p h s i).
-      false≢true (sym t ∙ limits-true (h .shape) i (record { l1-high = n .l1-high; l2-high = n .l2-high; w-high = n .w-high; index = n .index })))
+      false≢true (sym t ∙ limits-true (h .shape) (record { l1-high = n .l1-high; l2-high = n .l2-high; w-high = n .w-high })))
 
   pub parts-beyond-pack : length p < s .at + i * (3 + h .shape .w) + (3 + h .shape .w) → PartsOutcome p h s i NoParts
   unfolding packetAt packetSize
@@ -76,14 +73,14 @@ module _ (p : List ℕ) (h : Header) (s : Section) (i : ℕ) where
       not-standing (λ (n : Stands p h s i).
       let m : s .at + i * (3 + h .shape .w) + (3 + h .shape .w) ≤ length p = n .inside in omega arith)
 
-  pub parts-stand : withinLimits (h .shape) i ≡ true → s .at + i * (3 + h .shape .w) + (3 + h .shape .w) ≤ length p
+  pub parts-stand : withinLimits (h .shape) ≡ true → s .at + i * (3 + h .shape .w) + (3 + h .shape .w) ≤ length p
       → PartsOutcome p h s i
       (Parts (getD p (s .at + i * (3 + h .shape .w)) 0) (getD p (s .at + i * (3 + h .shape .w) + 1) 0) (getD p (s .at + i * (3 + h .shape .w) + 2) 0)
       (s .at + i * (3 + h .shape .w) + 3))
   unfolding packetAt packetSize packetIn
   parts-stand t inside =
-      let l = limits-parts (h .shape) i t in
-      standing (record { l1-high = l .l1-high; l2-high = l .l2-high; w-high = l .w-high; index = l .index; inside = inside })
+      let l = limits-parts (h .shape) t in
+      standing (record { l1-high = l .l1-high; l2-high = l .l2-high; w-high = l .w-high; inside = inside })
 
   -- a packet that stands in its pack is answered by its parts
   pub parts-told : (r : PartsRead) → PartsOutcome p h s i r → Stands p h s i
@@ -199,7 +196,6 @@ air-named p h s i e small l r =
         l1-high = v .l1-high;
         l2-high = v .l2-high;
         w-high = v .w-high;
-        index = omega (arith, sound .few small);
         inside = omega (arith, sound .ends, stretch-end i (s .count) (packetSize h) l);
       };
       range = r;

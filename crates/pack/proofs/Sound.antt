@@ -311,9 +311,6 @@ air-sound p h s e =
     air-behind-sound p g h c s (header-sound p g c passed) rest
 
 -- the packets that a count can hold fit a machine word
-pub packet-le : (i size : ℕ) → i < 4294967296 → size ≤ 1027 → i * size ≤ 4410931411965
-packet-le i size p q = let m : i ≤ 4294967295 = omega arith in mul-le-mul m q
-
 pub packets-le : (n w : ℕ) → n < 2 ^ 32 → w ≤ 1024 → n * (3 + w) ≤ 4410931411965
 packets-le n w p q =
     let m : n ≤ 4294967295 = omega arith in

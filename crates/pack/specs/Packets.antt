@@ -2,7 +2,7 @@
 use mathlib.Core.Path.{_≡_}
 use mathlib.Core.Bool.{true}
 use mathlib.Core.List.{List, [], map}
-use Prim.Native.Nat.{ℕ, _+_, _*_, _^_, _≤_, _<_}
+use Prim.Native.Nat.{ℕ, _+_, _*_, _≤_, _<_}
 use lib.ListN.{length, getD, take, drop}
 use Rattle.shape.specs.declared.Shape.{Shape}
 use Rattle.shape.specs.Shapes.{cell}
@@ -65,7 +65,6 @@ pub record Stands (p : List ℕ) (h : Header) (s : Section) (i : ℕ) : Type 0 w
   pub l1-high : h .shape .l1 ≤ 255
   pub l2-high : h .shape .l2 ≤ 255
   pub w-high : h .shape .w ≤ 1024
-  pub index : i < 2 ^ 32
   pub inside : packetAt h s i + packetSize h ≤ length p
 
 -- What `packet_parts` answers: a, b, c and where the cell's bytes begin, or that no packet stands there.

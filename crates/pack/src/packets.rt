@@ -91,13 +91,13 @@ pub fn packet(pack: &[u8], h: Header, s: Section, i: usize) -> PacketRead
     named(h.shape, wide(a), wide(b), wide(c), at)
 }
 
-// Packet i of the section as it stands there, without check 11. The limits keep all products in a machine word; every header and count that
-// was read is within them.
+// Packet i of the section as it stands there, without check 11. The limits keep all products in a machine word; every header that was read is
+// within them.
 pub fn packet_parts(pack: &[u8], h: Header, s: Section, i: usize) -> PartsRead
     ensures { λ r. ⌜ PartsOutcome (now (pack .entry)) h s i r ⌝ }
 {
     let sh = h.shape;
-    if !within_limits(sh, i) {
+    if !within_limits(sh) {
         return PartsRead::Absent;
     }
     let size = 3 + sh.w;
@@ -108,21 +108,21 @@ pub fn packet_parts(pack: &[u8], h: Header, s: Section, i: usize) -> PartsRead
     PartsRead::Parts(pack[at], pack[at + 1], pack[at + 2], at + 3)
 }
 
-fn within_limits(sh: Shape, i: usize) -> bool
-    ensures { λ r. ⌜ r ≡ withinLimits sh i ⌝ }
+fn within_limits(sh: Shape) -> bool
+    ensures { λ r. ⌜ r ≡ withinLimits sh ⌝ }
 {
-    sh.l1 <= 255 && (sh.l2 <= 255 && (sh.w <= 1024 && i < 4294967296))
+    sh.l1 <= 255 && (sh.l2 <= 255 && sh.w <= 1024)
 }
 
-// Whether packet i of those from a place on lies in the pack. The difference avoids a sum that could wrap.
+// Whether packet i of those from a place on lies in the pack. In a loop over packets the quotient is taken once, and one comparison a packet is left.
 fn lies_in(len: usize, at: usize, i: usize, size: usize) -> bool
-    requires { ⌜ (i < 4294967296) × (size ≤ 1027) ⌝ }
+    requires { ⌜ 0 < size ⌝ }
     ensures { λ r. ⌜ (r ≡ true → at + i * size + size ≤ len) × (r ≡ false → len < at + i * size + size) ⌝ }
 {
     if len < at {
         return false;
     }
-    i * size + size <= len - at
+    i < (len - at) / size
 }
 
 // The cell that a, b and c name, where they are below their lengths.

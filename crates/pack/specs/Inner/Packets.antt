@@ -11,10 +11,9 @@ use Rattle.pack.specs.declared.PacketRead.{PacketRead}
 use Rattle.pack.specs.declared.PacketRead.the-variants.{Names, Absent}
 use Rattle.pack.specs.Packets.{OnCube}
 
--- the limits of `Stands` on a header and an index
-unfoldable pub withinLimits : Shape → ℕ → Bool
-withinLimits sh i =
-    both (leb (sh .l1) 255) (both (leb (sh .l2) 255) (both (leb (sh .w) 1024) (ltb i 4294967296)))
+-- the limits of `Stands` on a header
+unfoldable pub withinLimits : Shape → Bool
+withinLimits sh = both (leb (sh .l1) 255) (both (leb (sh .l2) 255) (leb (sh .w) 1024))
 
 -- the cell that a, b and c name, where they are below their lengths, and where its bytes begin
 unfoldable pub namedBy : Shape → ℕ → ℕ → ℕ → ℕ → PacketRead

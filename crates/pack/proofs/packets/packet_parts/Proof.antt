@@ -17,12 +17,10 @@ returns : tie.Need-returns
 returns c = parts-beyond-limits _ _ _ _ (sym (c .before .within-limits .ensures) ∙ not-true _ (c .if1 .taken))
 
 add-size : tie.Need-add-size
-add-size c = omega (arith, limits-parts _ _ (sym (c .before .before .within-limits .ensures) ∙ not-false _ (c .before .if1 .left)) .w-high)
+add-size c = omega (arith, limits-parts _ (sym (c .before .before .within-limits .ensures) ∙ not-false _ (c .before .if1 .left)) .w-high)
 
 lies-in-requires : tie.Need-lies-in-requires
-lies-in-requires c κs =
-    let l = limits-parts _ _ (sym (c .before .before .within-limits .ensures) ∙ not-false _ (c .before .if1 .left)) in
-    (l .index, omega (arith, l .w-high))
+lies-in-requires c κs = omega arith
 
 returns-2 : tie.Need-returns-2
 returns-2 c = parts-beyond-pack _ _ _ _ (c .before .lies-in .ensures .1 (not-true _ (c .if2 .taken)))

@@ -7,19 +7,15 @@ use Rattle.pack.proofs.packets.within_limits.Tie as tie
 
 returns : tie.Need-returns
 unfolding withinLimits both
-returns c = rw (le-leb _ _ (c .before .before .before .before .if1 .taken), le-leb _ _ (c .before .before .if2 .taken), le-leb _ _ (c .if3 .taken))
+returns c = rw (le-leb _ _ (c .before .before .before .if1 .taken), le-leb _ _ (c .before .if2 .taken))
 
 returns-2 : tie.Need-returns-2
 unfolding withinLimits both
-returns-2 c = rw (le-leb _ _ (c .before .before .before .before .if1 .taken), le-leb _ _ (c .before .before .if2 .taken), lt-leb _ _ (c .if3 .left))
+returns-2 c = rw (le-leb _ _ (c .before .before .if1 .taken), lt-leb _ _ (c .if2 .left))
 
 returns-3 : tie.Need-returns-3
 unfolding withinLimits both
-returns-3 c = rw (le-leb _ _ (c .before .before .if1 .taken), lt-leb _ _ (c .if2 .left))
-
-returns-4 : tie.Need-returns-4
-unfolding withinLimits both
-returns-4 c = rw (lt-leb _ _ (c .if1 .left))
+returns-3 c = rw (lt-leb _ _ (c .if1 .left))
 
 pub within-limits-spec : {M : Type 1} → statement M
-within-limits-spec = tie.close (tie.spec returns returns-2 returns-3 returns-4)
+within-limits-spec = tie.close (tie.spec returns returns-2 returns-3)

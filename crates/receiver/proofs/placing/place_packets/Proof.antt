@@ -55,14 +55,13 @@ add-repeats c =
     let p = c .before .before .before .before in
     let l = turn p in
     let run = p .place-repeats .ensures .0 in
-    let last : p .place-repeats .result - 1 < start l .args .s .count = omega (arith, run .high, moves p) in
     omega (
       arith,
       run .low,
       run .repeats,
       l .before .loop .inv .2,
       repeats-le (packets l) (p .place-repeats .result),
-      start l .pre .named _ last .stands .index,
+      p .place-repeats .ok,
     )
 
 place-new-requires-2 : tie.Need-place-new-requires-2 Inv-loop μ-loop
