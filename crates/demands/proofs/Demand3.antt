@@ -17,7 +17,7 @@ use Rattle.answer.proofs.Values.{gives-injective, gives-refused, passes-injecti
 use Rattle.field.specs.Field.{reduction}
 use Rattle.field.proofs.Primitive.{primitive}
 use Rattle.shape.specs.declared.Shape.{Shape}
-use Rattle.shape.specs.Shapes.{Valid, both, cells, capacity, sizes, IsLine}
+use Rattle.shape.specs.Shapes.{both, cells, capacity, sizes, IsLine}
 use Rattle.shape.specs.Flags.{missing}
 use Rattle.shape.proofs.Valid.{both-true}
 use Rattle.data.specs.Data.{layer, HoldsData}
@@ -32,7 +32,7 @@ use Rattle.fill.proofs.Recovery.{Recovered, code-recovered, recovered-whole}
 use Rattle.pack.specs.declared.Header.{Header}
 use Rattle.pack.specs.declared.Section.{Section}
 use Rattle.pack.specs.Packs.{Packet, unsent, sends, sentBelow, sentPackets, airPack, packetOf, dataString}
-use Rattle.pack.specs.Packets.{Source, packetIn, packetsIn, packetNo, source, sourceOf}
+use Rattle.pack.specs.Packets.{Source, packetIn, packetNo, source, sourceOf}
 use Rattle.pack.specs.Reading.{airOf}
 use Rattle.pack.proofs.Sound.{HeaderSound, air-sound}
 use Rattle.pack.proofs.Sent.{SentAt}

@@ -14,7 +14,7 @@ use Rattle.answer.proofs.Values.{passes-injective, passes-fails, check-passed, 
 use Rattle.field.specs.Field.{reduction}
 use Rattle.field.proofs.Primitive.{primitive}
 use Rattle.shape.specs.declared.Shape.{Shape}
-use Rattle.shape.specs.Shapes.{Valid, cells, cell, capacity, dataCell, dataCells}
+use Rattle.shape.specs.Shapes.{cells, cell, capacity, dataCell, dataCells}
 use Rattle.shape.proofs.Valid.{both-parts}
 use Rattle.shape.proofs.Geometry.{cell-coordinates}
 use Rattle.stopping.specs.Stopping.{number}

@@ -3,7 +3,7 @@
 use mathlib.Core.Path.{_≡_, refl, sym, ap, subst, _∙_}
 use mathlib.Core.Bool.{Bool, true, false, cond, true≢false}
 use mathlib.Core.List.{List, [], _∷_}
-use mathlib.Core.Logic.{_≢_, _⊎_, inl, inr, ⊎-elim}
+use mathlib.Core.Logic.{_⊎_, inl, inr, ⊎-elim}
 use Prim.Native.Nat.{ℕ, zero, suc, _+_, _-_, _*_, _/_, _≤_, _<_}
 use native.Mathlib.Omega.{arith}
 use lib.Arith.{digits-div, digits-lt}
@@ -14,7 +14,7 @@ use Rattle.answer.proofs.Values.{refusal-gives, refusal-injective}
 use Rattle.field.specs.Field.{Primitive}
 use Rattle.line.proofs.Codeword.{codeword-cong}
 use Rattle.shape.specs.declared.Shape.{Shape}
-use Rattle.shape.specs.Shapes.{Valid, cells, cell, IsLine}
+use Rattle.shape.specs.Shapes.{Valid, cells, IsLine}
 use Rattle.shape.specs.Flags.{missing}
 use Rattle.shape.proofs.Valid.{volume-le}
 use Rattle.shape.proofs.Geometry.{line-cell-lt}

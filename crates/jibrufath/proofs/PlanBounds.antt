@@ -3,7 +3,7 @@ use mathlib.Core.List.{List}
 use Prim.Native.Nat.{ℕ, _^_, _<_}
 use native.Mathlib.Omega.{arith}
 use native.Mathlib.Decide.{decLt}
-use lib.ListN.{length, getD, take, List·getD-eq-default, length-take}
+use lib.ListN.{length, take, List·getD-eq-default, length-take}
 use lib.Seq.{getD-take}
 use Rattle.answer.specs.Values.{Value}
 use Rattle.receiver.specs.declared.Counts.{Counts}

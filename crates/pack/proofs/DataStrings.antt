@@ -2,26 +2,15 @@
 use mathlib.Core.Path.{_≡_, refl, sym, ap, _∙_}
 use mathlib.Core.List.{List, [], _∷_, _++_}
 use Prim.Native.Nat.{ℕ, zero, suc, _+_, _-_, _*_, _/_, _%_, _^_, _≤_, _<_}
-use native.Mathlib.Nat.{mul-le-mul}
 use native.Mathlib.Decide.{decLt}
 use native.Mathlib.Omega.{arith}
 use lib.ListN.{length, getD, take, drop, replicate, getD-replicate, List·getD-append}
 use lib.Seq.{ext-getD, getD-append-add, take-at}
 use Rattle.shape.specs.declared.Shape.{Shape}
-use Rattle.shape.specs.Shapes.{Valid, cells, capacity}
+use Rattle.shape.specs.Shapes.{capacity}
 use Rattle.cursor.specs.Steps.{word, wordBytes}
 use Rattle.pack.specs.Packs.{dataString}
 use Rattle.pack.proofs.Written.{wordBytes-value, dataString-length}
-
-pub capacity-le : (sh : Shape) → Valid sh → capacity sh ≤ 268435456
-unfolding capacity cells
-capacity-le sh v =
-    let a : sh .l1 - 2 ≤ sh .l1 = omega arith in
-    let b : sh .l2 - 2 ≤ sh .l2 = omega arith in
-    let c : sh .l3 - 2 ≤ sh .l3 = omega arith in
-    let w : sh .w ≤ sh .w = omega arith in
-    let most : sh .w * ((sh .l1 - 2) * (sh .l2 - 2) * (sh .l3 - 2)) ≤ sh .w * (sh .l1 * sh .l2 * sh .l3) = mul-le-mul w (mul-le-mul (mul-le-mul a b) c) in
-    omega (arith, v .volume)
 
 module _ (sh : Shape) where
   pub data-word : (file : List ℕ) → length file < 2 ^ 32 → word (dataString sh file) 0 ≡ length file

@@ -10,8 +10,7 @@ use native.Mathlib.Omega.{arith}
 use lib.Dec.{leb, ltb}
 use lib.ListN.{length, getD, length-append, List·getD-append}
 use lib.Seq.{getD-append-add}
-use borrow.Author.Tests.{lt-ltb, le-ltb, leb-true, le-leb, lt-leb}
-use Rattle.shape.specs.declared.Shape.{Shape}
+use borrow.Author.Tests.{lt-ltb, le-ltb, lt-leb}
 use Rattle.shape.specs.declared.Sizes.{Sizes}
 use Rattle.shape.specs.Shapes.{both, cells, cell, dataCell, dataCells, sizes}
 use Rattle.stopping.specs.Stopping.{number}

@@ -4,7 +4,7 @@ use mathlib.Core.Bool.{true}
 use mathlib.Core.Logic.{_⊎_, inl, inr, ⊎-elim}
 use mathlib.Core.List.{List}
 use Prim.Native.Nat.{ℕ, _+_, _-_, _*_, _^_, _≤_, _<_}
-use native.Mathlib.Nat.{mul-le-mul, mul-pos, sub-le}
+use native.Mathlib.Nat.{mul-le-mul, mul-le-mul-left, mul-pos, sub-le}
 use native.Mathlib.Decide.{ℕ-discrete}
 use native.Mathlib.Omega.{arith}
 use lib.ListN.{length, getD}
@@ -199,6 +199,14 @@ pub data-cells-le : (sh : Shape) → dataCells sh ≤ cells sh
 unfolding cells dataCells
 data-cells-le sh = mul-le-mul (mul-le-mul (sub-le (sh .l1) 2) (sub-le (sh .l2) 2)) (sub-le (sh .l3) 2)
 
+pub capacity-le-cube : (sh : Shape) → capacity sh ≤ sh .w * cells sh
+unfolding capacity cells dataCells
+capacity-le-cube sh = mul-le-mul-left (sh .w) (data-cells-le sh)
+
+pub capacity-le : (sh : Shape) → Valid sh → capacity sh ≤ 268435456
+unfolding cells
+capacity-le sh v = omega (arith, capacity-le-cube sh, v .volume)
+
 pub used-bytes-le : (u w : ℕ) → u ≤ 16777216 → w ≤ 1024 → u * w ≤ 17179869184
 used-bytes-le u w p q = mul-le-mul p q
 
@@ -226,12 +234,13 @@ module _ (p : List ℕ) (r : JobRead) (e : jobValue r ≡ checked (jobOf p)) whe
   unfolding jobValue
   job-refused f q = rw q at e
 
-module _ (p : List ℕ) (r : AirRead) (e : airValue r ≡ checked (airOf p)) where
-  pub air-told : (h : Header) (s : Section) → r ≡ Air h s → airOf p ≡ passes (h, s)
+-- the receiver's reading of a pack, or the text twin's
+module _ (k : Checked (Header × Section)) (r : AirRead) (e : airValue r ≡ checked k) where
+  pub air-told : (h : Header) (s : Section) → r ≡ Air h s → k ≡ passes (h, s)
   unfolding airValue
-  air-told h s q = checked-passes (airOf p) (h, s) (rw q at e)
+  air-told h s q = checked-passes k (h, s) (rw q at e)
 
-  pub air-refused : (f : Refusal) → r ≡ NoAir f → refusal {A = Header × Section} f ≡ checked (airOf p)
+  pub air-refused : (f : Refusal) → r ≡ NoAir f → refusal {A = Header × Section} f ≡ checked k
   unfolding airValue
   air-refused f q = rw q at e
 

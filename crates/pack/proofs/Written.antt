@@ -5,18 +5,16 @@ use mathlib.Core.Bool.{true, cond}
 use mathlib.Core.Logic.{_⊎_, ⊎-elim}
 use mathlib.Core.List.{List, [], _∷_, _++_, map, append-assoc, append-nil}
 use Prim.Native.Nat.{ℕ, zero, suc, _+_, _-_, _*_, _/_, _%_, _^_, _≤_, _<_}
-use native.Mathlib.Nat.{add-zero, suc-mul, zero-mul, sub-le, mul-le-mul, mul-le-mul-left, mul-comm, mod-eq-of-lt, div-add-mod, div-div-eq-div-mul, mod-add-div}
-use native.Mathlib.Numerals.{add-one}
+use native.Mathlib.Nat.{add-zero, suc-mul, zero-mul, mul-comm, mod-eq-of-lt, div-add-mod, div-div-eq-div-mul, mod-add-div}
 use native.Mathlib.Omega.{arith}
 use lib.Dec.{eqb}
 use lib.ListN.{length, getD, take, drop, replicate, length-append, length-drop, length-replicate, length-map, List·getD-append, List·getD-map}
 use lib.Seq.{length-take-le, getD-append-add, take-append-seam, drop-append-seam}
 use borrow.Author.Tests.{le-leb, eq-eqb}
-use borrow.Table.Elements.{map-app}
 use Rattle.answer.specs.Values.{Checked, passes, check, andThen}
 use Rattle.shape.specs.declared.Shape.{Shape}
 use Rattle.shape.specs.declared.Sizes.{Sizes}
-use Rattle.shape.specs.Shapes.{Valid, cells, capacity, dataCells, sizes}
+use Rattle.shape.specs.Shapes.{cells, capacity, dataCells, sizes}
 use Rattle.shape.proofs.Valid.{valid-passes, within-true}
 use Rattle.stopping.specs.Stopping.{number}
 use Rattle.span.proofs.Stretches.{stretch-end}
@@ -28,7 +26,7 @@ use Rattle.pack.specs.Packs.{shapeBytes, sectionOne, head, Packet, packe
 use Rattle.cursor.specs.Steps.{count, bytes}
 use Rattle.pack.specs.Reading.{end, shapeAt, givenAt, usedBy, headerWith, headed, isCount, headerOf, jobBehind, jobOf, packetSize, airBehind, airOf, fileOf}
 use Rattle.pack.specs.Packets.{packetAt, packetNo, source, sourceOf}
-use Rattle.pack.proofs.Sound.{HeaderSound, cells-le, data-cells-le}
+use Rattle.pack.proofs.Sound.{HeaderSound, cells-le, data-cells-le, capacity-le}
 use Rattle.pack.proofs.Sent.{SentAt, sentBelow-length, sentBelow-at}
 
 -- ---- words
@@ -266,14 +264,6 @@ module _ (h : Header) (ps : List Packet) (sound : HeaderSound h) (all : Sized (h
       )
 
 -- ---- a job pack
-
-capacity-le : (sh : Shape) → Valid sh → capacity sh ≤ 268435456
-unfolding capacity cells
-capacity-le sh v =
-    let d : (sh .l1 - 2) * (sh .l2 - 2) * (sh .l3 - 2) ≤ sh .l1 * sh .l2 * sh .l3
-    = mul-le-mul (mul-le-mul (sub-le (sh .l1) 2) (sub-le (sh .l2) 2)) (sub-le (sh .l3) 2) in
-    let m : sh .w * ((sh .l1 - 2) * (sh .l2 - 2) * (sh .l3 - 2)) ≤ sh .w * (sh .l1 * sh .l2 * sh .l3) = mul-le-mul-left (sh .w) d in
-    omega (arith, v .volume)
 
 file-laid : (before file rest : List ℕ) → take (length file) (drop (length before) (before ++ (file ++ rest))) ≡ file
 file-laid before file rest = rw (drop-append-seam before (file ++ rest)) (take-append-seam file rest)

@@ -29,7 +29,7 @@ end p c done = check (eqb (length p) (c .at)) 8 done
 
 -- ---- the readers
 
--- the five bytes of section 1
+-- the first five bytes of section 1
 unfoldable pub shapeAt : List ℕ → ℕ → Shape
 shapeAt p at =
     record {

@@ -9,7 +9,7 @@ use lib.Dec.{ltb}
 use Rattle.plan_form.specs.Entries.{Bytes}
 use Rattle.plan_form.specs.Theorems.{onePlan, PlanExists}
 use Rattle.plan_form.proofs.Example.{plan-exists}
-use Rattle.plan.specs.Calls.{Exact, written}
+use Rattle.plan.specs.Calls.{written}
 use Rattle.plan.specs.Theorems.{ListBytes, OneWritten}
 
 -- that a list is one of bytes, as a test

@@ -15,7 +15,7 @@ use Rattle.shape.specs.declared.Shape.{Shape}
 use Rattle.receiver.specs.declared.Counts.{Counts}
 use Rattle.receiver.specs.declared.Received.{Received}
 use Rattle.receiver.specs.declared.Ending.the-variants.{File, Left, Refused}
-use Rattle.receiver.specs.Gathering.{Reception, file, left, unfit, index, contradiction, some-left, noCounts}
+use Rattle.receiver.specs.Gathering.{Reception, file, unfit, index, contradiction, some-left, noCounts}
 use Rattle.receiver.specs.Opening.{OpenOutcome, held, bad}
 use Rattle.receiver.specs.Receive.{Memory, endingValue, ReceiveOutcome, unopened, bad-file, opened}
 use Rattle.plan_form.specs.declared.PlanCounts.{PlanCounts}

@@ -1,12 +1,11 @@
 -- A plan of one splice keeps every rule.
-use mathlib.Core.Path.{_≡_, refl, sym, subst}
-use mathlib.Core.Logic.{inl, inr}
-use Prim.Native.Nat.{ℕ, _<_}
+use mathlib.Core.Path.{_≡_, refl, subst}
+use mathlib.Core.Logic.{inr}
 use native.Mathlib.Omega.{arith}
 use native.Mathlib.Decide.{ℕ-discrete}
 use Rattle.cursor.specs.Steps.{word}
 use Rattle.plan_form.specs.Entries.{half, closureAt, ClosureRule, closureOf, fibreNumber, Precedes, Listed, FibreRule, firstOf, secondOf, SpliceRule}
-use Rattle.plan_form.specs.Form.{Plan, Part, closure-count, closure, fibre-count, fibre, splice-count, splice, start, size, planEnd, Has, Rule, Sound, IsPlan, countsOf, planOf}
+use Rattle.plan_form.specs.Form.{Plan, Part, closure-count, closure, fibre-count, fibre, splice-count, splice, start, size, planEnd, Has, Rule, Sound, countsOf, planOf}
 use Rattle.plan_form.specs.Theorems.{onePlan, PlanExists}
 
 abbrev P : Plan

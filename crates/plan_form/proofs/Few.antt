@@ -1,10 +1,8 @@
 -- A plan has few entries: closures are numbers of two bytes and ascend, pairs of two such numbers too, and each splice has a first fibre of its own.
 use mathlib.Core.Path.{_≡_}
-use mathlib.Core.List.{List}
 use mathlib.Core.Logic.{inl, inr}
 use Prim.Native.Nat.{ℕ, zero, suc, _+_, _-_, _*_, _≤_, _<_}
 use native.Mathlib.Omega.{arith}
-use lib.ListN.{getD}
 use Rattle.plan_form.specs.Entries.{Bytes, Entries, closureAt, ClosureRule, closureOf, fibreNumber, Precedes, FibreRule, firstOf, SpliceRule}
 use Rattle.plan_form.proofs.Halves.{half-lt}
 

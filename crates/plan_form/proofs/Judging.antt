@@ -11,7 +11,7 @@ use Rattle.plan_form.specs.declared.PlanRead.{PlanRead}
 use Rattle.plan_form.specs.declared.PlanRead.the-variants.{Refused}
 use Rattle.plan_form.specs.declared.PlanCounts.{PlanCounts}
 use Rattle.plan_form.specs.Entries.{ClosureRule, FibreRule, SpliceRule}
-use Rattle.plan_form.specs.Form.{Plan, Part, closure-count, closure, fibre-count, fibre, splice-count, splice, start, size, planEnd, Has, Rule, Sound, SoundBefore, Broken, part-broken, left-over, IsPlan, FormOutcome, formed, broken, planValue}
+use Rattle.plan_form.specs.Form.{Plan, Part, closure-count, closure, fibre-count, fibre, splice-count, splice, start, size, planEnd, Has, Rule, Sound, SoundBefore, Broken, part-broken, left-over, IsPlan, FormOutcome, broken, planValue}
 use Rattle.plan_form.specs.Inner.Checks.{First, FibresKept}
 use Rattle.plan_form.proofs.Soundness.{closures-sound, fibres-sound, splices-sound, all-sound}
 use Rattle.plan_form.proofs.Ascending.{fibres-kept}

@@ -3,7 +3,7 @@ use mathlib.Core.Path.{_≡_, refl}
 use Prim.Native.Nat.{ℕ, _<_}
 use native.Mathlib.Omega.{arith}
 use native.Mathlib.Decide.{decLt}
-use Rattle.plan_form.specs.Form.{Plan, Part, start, Has, Sound, SoundBefore, Broken, part-broken, left-over}
+use Rattle.plan_form.specs.Form.{Plan, Part, start, Has, Sound, SoundBefore, part-broken, left-over}
 use Rattle.plan_form.specs.Theorems.{OneBroken, BrokenOrPlan}
 
 module _ {P : Plan} {len : ℕ} where

@@ -3,7 +3,7 @@ use mathlib.Core.Path.{_≡_, refl, ap, _∙_}
 use mathlib.Core.Bool.{Bool, true, false, cond}
 use mathlib.Core.List.{List, _++_}
 use Prim.Native.Nat.{ℕ, _+_, _-_, _*_, _≤_, _<_}
-use native.Mathlib.Nat.{one-mul, mul-le-mul, mul-le-mul-left, mul-le-mul-right, sub-le}
+use native.Mathlib.Nat.{one-mul, mul-le-mul-right}
 use native.Mathlib.Omega.{arith}
 use lib.Dec.{eqb}
 use lib.ListN.{length, take, drop}
@@ -19,7 +19,7 @@ use Rattle.shape.specs.Shapes.{Valid, cells, capacity, sizes}
 use Rattle.pack.specs.declared.Header.{Header}
 use Rattle.pack.specs.declared.Section.{Section}
 use Rattle.pack.specs.Reading.{airOf}
-use Rattle.pack.proofs.Sound.{HeaderSound, air-sound}
+use Rattle.pack.proofs.Sound.{HeaderSound, air-sound, capacity-le-cube}
 use Rattle.receiver.specs.declared.Counts.{Counts}
 use Rattle.receiver.specs.declared.Ending.{Ending}
 use Rattle.receiver.specs.declared.Ending.the-variants.{File, Left, Refused as Stopped}
@@ -67,10 +67,6 @@ sizes-parts sh z e = (ap (λ (y : Sizes). y .bytes) e, ap (λ (y : Sizes). y .ce
 
 pub cells-le-cube : (sh : Shape) → Valid sh → cells sh ≤ sh .w * cells sh
 cells-le-cube sh v = rw (one-mul (cells sh)) at (mul-le-mul-right (cells sh) (v .w-low))
-
-pub capacity-le-cube : (sh : Shape) → capacity sh ≤ sh .w * cells sh
-unfolding capacity cells
-capacity-le-cube sh = mul-le-mul-left (sh .w) (mul-le-mul (mul-le-mul (sub-le (sh .l1) 2) (sub-le (sh .l2) 2)) (sub-le (sh .l3) 2))
 
 -- a pack that is refused by its number
 pub refused-input : (p fs bs : List ℕ) (f : Refusal) (n : ℕ) → length p ≤ 65536 → refusal f ≡ checked (airOf p)

@@ -23,9 +23,8 @@ use Rattle.data.proofs.Writing.{set-cell, set-cell-kept}
 use Rattle.pack.specs.declared.Header.{Header}
 use Rattle.pack.specs.Packs.{unsent}
 use Rattle.pack.specs.Packets.{Source}
-use Rattle.pack.proofs.DataStrings.{capacity-le}
 use Rattle.pack.proofs.Sent.{parity-1, parity-2, parity-3, data-unsent}
-use Rattle.pack.proofs.Sound.{cells-le}
+use Rattle.pack.proofs.Sound.{cells-le, capacity-le}
 use Rattle.receiver.specs.Inner.Placing.{Marked}
 use Rattle.receiver.proofs.Arrivals.{mark-none}
 

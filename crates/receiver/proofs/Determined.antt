@@ -36,7 +36,8 @@ use Rattle.receiver.specs.Theorems.{NothingLeftOpen}
 use Rattle.receiver.proofs.Bytes.{clash}
 use Rattle.receiver.proofs.Copies.{among-earlier, agreed-then}
 use Rattle.receiver.proofs.Outcomes.{accepted-ready, placed-checked}
-use Rattle.pack.proofs.DataStrings.{capacity-le, data-word, data-later, data-injective}
+use Rattle.pack.proofs.Sound.{capacity-le}
+use Rattle.pack.proofs.DataStrings.{data-word, data-later, data-injective}
 
 -- ---- placing
 

@@ -154,7 +154,7 @@ module _ (p xs fs bs : List ℕ) where
     pub received-refused : (f : Refusal) (end : Received) → r ≡ NoAir f → end ≡ refusing f → Receives p (lent xs fs bs) (lent xs fs bs) end
     unfolding endingValue receiveChecked
     received-refused f end e is =
-        let (n, failed, number) = checked-fails {B = Reception} _ f (then-refused (airOf p) _ f (air-refused p r read f e)) in
+        let (n, failed, number) = checked-fails {B = Reception} _ f (then-refused (airOf p) _ f (air-refused (airOf p) r read f e)) in
         rw (is, number) (unopened (refused n) noCounts (unfit n failed refl refl) refl)
 
     module _ (h : Header) (s : Section) (air : r ≡ Air h s) (b : Bool)
@@ -162,11 +162,11 @@ module _ (p xs fs bs : List ℕ) where
       pub received-sizes : (end : Received) → b ≡ false → end ≡ refusing (Plain SliceLength) → Receives p (lent xs fs bs) (lent xs fs bs) end
       unfolding endingValue refusal faultNumber receiveChecked slicesFit andThen check
       received-sizes end no-fit is =
-          rw is (unopened (refused 4) noCounts (unfit 4 (rw (air-told p r read h s air, sym test ∙ no-fit)) refl refl) refl)
+          rw is (unopened (refused 4) noCounts (unfit 4 (rw (air-told (airOf p) r read h s air, sym test ∙ no-fit)) refl refl) refl)
 
       pub received-accepted : b ≡ true → receiveChecked p (lent xs fs bs) ≡ passes (h, s)
       unfolding receiveChecked slicesFit andThen check
-      received-accepted fit = rw (air-told p r read h s air, sym test ∙ fit)
+      received-accepted fit = rw (air-told (airOf p) r read h s air, sym test ∙ fit)
 
   module _ (h : Header) (s : Section) (accepted : receiveChecked p (lent xs fs bs) ≡ passes (h, s)) (ys gs : List ℕ) (g : Gathering)
       (gathers : (checks : Checked (Header × Section)) → checks ≡ passes (h, s)

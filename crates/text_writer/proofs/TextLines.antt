@@ -14,17 +14,15 @@ use borrow.Table.Elements.{map-app}
 use Rattle.answer.specs.declared.Refusal.{Refusal}
 use Rattle.answer.specs.declared.Answer.the-variants.{Refused}
 use Rattle.answer.specs.Values.{Checked, passes, fails, check, andThen, checked, refusal, answerValue}
-use Rattle.answer.proofs.Values.{checked-passes, checked-fails}
+use Rattle.answer.proofs.Values.{checked-fails}
 use Rattle.shape.specs.declared.Shape.{Shape}
 use Rattle.pack.specs.declared.Header.{Header}
 use Rattle.pack.specs.declared.Section.{Section}
-use Rattle.pack.specs.declared.AirRead.{AirRead}
-use Rattle.pack.specs.declared.AirRead.the-variants.{Air, Refused as NoAir}
 use Rattle.pack.specs.declared.PartsRead.{PartsRead}
 use Rattle.pack.specs.declared.PartsRead.the-variants.{Parts, Absent}
 use Rattle.pack.specs.Packs.{Packet, upFrom}
 use Rattle.pack.specs.Packets.{packetAt, packetIn, packetsIn, PartsOutcome, FirstOutside}
-use Rattle.pack.specs.Reading.{packetSize, airOf, plainAirOf, airValue}
+use Rattle.pack.specs.Reading.{packetSize, airOf, plainAirOf}
 use Rattle.pack.proofs.Sound.{air-sound}
 use Rattle.pack.proofs.Sent.{upFrom-more}
 use Rattle.pack.proofs.Naming.{parts-told}
@@ -302,16 +300,6 @@ module _ (p : List ℕ) (h : Header) (s : Section) (t u : List ℕ) (x : ℕ) (s
   text-whole v y lines = append-all t _ v y size (append-append t 0 _ u x _ v y first lines)
 
 -- ---- the checks
-
--- what `read_plain_air` told
-module _ (p : List ℕ) (r : AirRead) (e : airValue r ≡ checked (plainAirOf p)) where
-  pub plain-told : (h : Header) (s : Section) → r ≡ Air h s → plainAirOf p ≡ passes (h, s)
-  unfolding airValue
-  plain-told h s q = checked-passes (plainAirOf p) (h, s) (rw q at e)
-
-  pub plain-refused : (f : Refusal) → r ≡ NoAir f → refusal {A = Header × Section} f ≡ checked (plainAirOf p)
-  unfolding airValue
-  plain-refused f q = rw q at e
 
 pub outside-none : (p : List ℕ) (h : Header) (s : Section) (r : ℕ) → FirstOutside p h s r → s .count ≤ r → FirstOutside p h s (s .count)
 outside-none p h s r f l = let e : r ≡ s .count = omega (arith, f .bound) in subst (FirstOutside p h s) e f

@@ -1,6 +1,7 @@
 -- `text_writer::write_text` meets its contract. Assumes nothing.
 use borrow.Author.Needs.{needs}
-use Rattle.text_writer.proofs.TextLines.{plain-told, plain-refused, text-unread}
+use Rattle.pack.proofs.Sound.{air-told, air-refused}
+use Rattle.text_writer.proofs.TextLines.{text-unread}
 use Rattle.text_writer.proofs.write_text.Statement.{statement}
 use Rattle.text_writer.proofs.write_text.Tie as tie
 
@@ -14,10 +15,10 @@ enum-known-h : tie.Need-enum-known-h
 enum-known-h c = search needs
 
 write-read-requires : tie.Need-write-read-requires
-write-read-requires c κs = plain-told _ _ (c .before .before .before .before .read-plain-air .ensures) _ _ (c .before .before .h .given .1)
+write-read-requires c κs = air-told _ _ (c .before .before .before .before .read-plain-air .ensures) _ _ (c .before .before .h .given .1)
 
 returns : tie.Need-returns
-returns c = text-unread _ _ _ (plain-refused _ _ (c .before .before .before .read-plain-air .ensures) _ (c .before .f .given .1))
+returns c = text-unread _ _ _ (air-refused _ _ (c .before .before .before .read-plain-air .ensures) _ (c .before .f .given .1))
 
 same-length : tie.Need-same-length
 same-length c = search needs

@@ -1,6 +1,6 @@
 -- `writer::lay_file` meets its contract: the data string stands in the cube's data cells. Assumes nothing.
 use native.Mathlib.Omega.{arith}
-use Rattle.pack.proofs.DataStrings.{capacity-le}
+use Rattle.pack.proofs.Sound.{capacity-le}
 use Rattle.writer.proofs.Outcomes.{file-laid}
 use borrow.Author.Needs.{needs}
 use Rattle.writer.proofs.lay_file.Statement.{statement}

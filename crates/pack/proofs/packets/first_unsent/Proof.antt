@@ -4,7 +4,6 @@ use mathlib.Core.Bool.{false}
 use Prim.Native.Nat.{ℕ, _-_, _≤_, _<_}
 use native.Mathlib.Omega.{arith}
 use borrow.Author.Count.{below-more}
-use borrow.Author.Needs.{needs}
 use Rattle.pack.specs.Packs.{unsent}
 use Rattle.pack.specs.Packets.{source}
 use Rattle.pack.proofs.Naming.{unsent-outside, none-unsent}

@@ -1,6 +1,5 @@
 -- `pack::packets::names_unsent` meets its contract. Assumes nothing.
 use mathlib.Core.Path.{sym}
-use native.Mathlib.Omega.{arith}
 use borrow.Author.Needs.{needs}
 use Rattle.pack.proofs.Naming.{parts-gone, parts-range, parts-unsent}
 use Rattle.pack.proofs.packets.names_unsent.Statement.{statement}

@@ -1,14 +1,12 @@
 -- `pack::reading::headed` meets its contract. Assumes nothing.
-use mathlib.Core.Path.{_≡_, sym, _∙_}
-use mathlib.Core.Bool.{true, false}
+use mathlib.Core.Path.{sym, _∙_}
 use borrow.Author.Tests.{le-leb, lt-leb, not-true, not-false}
 use borrow.Author.Needs.{needs}
 use Rattle.answer.specs.Refusals.{faultNumber}
 use Rattle.answer.specs.Values.{refusal, check, checked, andThen}
 use Rattle.answer.proofs.Values.{then-refused}
-use Rattle.shape.specs.Shapes.{within, dataCells}
 use Rattle.shape.proofs.Valid.{measure-fits, measure-refused, shape-passed}
-use Rattle.pack.specs.Reading.{usedBy, headerWith, headed, headerValue}
+use Rattle.pack.specs.Reading.{headerWith, headed, headerValue}
 use Rattle.pack.proofs.reading.headed.Statement.{statement}
 use Rattle.pack.proofs.reading.headed.Tie as tie
 

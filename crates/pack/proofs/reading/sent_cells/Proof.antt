@@ -1,6 +1,5 @@
 -- `pack::reading::sent_cells` meets its contract. Assumes nothing.
-use mathlib.Core.Path.{_≡_, sym, _∙_}
-use mathlib.Core.Bool.{true, false}
+use mathlib.Core.Path.{sym, _∙_}
 use native.Mathlib.Omega.{arith}
 use borrow.Author.Tests.{not-true, not-false}
 use borrow.Author.Needs.{needs}
@@ -8,7 +7,7 @@ use Rattle.answer.specs.Refusals.{faultNumber}
 use Rattle.answer.specs.Values.{refusal, check, checked, andThen}
 use Rattle.answer.proofs.Values.{then-refused}
 use Rattle.shape.proofs.Valid.{measure-fits, measure-refused, shape-passed, within-parts}
-use Rattle.pack.specs.Reading.{isCount, sentChecked, sentValue}
+use Rattle.pack.specs.Reading.{sentChecked, sentValue}
 use Rattle.pack.proofs.Sent.{sent-counted, unsent-fit}
 use Rattle.pack.proofs.reading.sent_cells.Statement.{statement}
 use Rattle.pack.proofs.reading.sent_cells.Tie as tie

@@ -1,5 +1,4 @@
 -- `pack::reading::used_by` meets its contract. Assumes nothing.
-use mathlib.Core.Path.{sym}
 use borrow.Author.Tests.{eq-eqb, ne-eqb}
 use Rattle.pack.specs.Reading.{usedBy}
 use Rattle.pack.proofs.reading.used_by.Statement.{statement}

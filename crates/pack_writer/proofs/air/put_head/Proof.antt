@@ -1,6 +1,4 @@
 -- `pack_writer::air::put_head` meets its contract. Assumes nothing.
-use mathlib.Core.Path.{_≡_}
-use mathlib.Core.Logic.{_⊎_}
 use native.Mathlib.Omega.{arith}
 use borrow.Author.Needs.{needs}
 use Rattle.cursor.specs.Steps.{wordBytes}

@@ -2,7 +2,6 @@
 use mathlib.Core.Path.{refl}
 use Prim.Native.Nat.{_-_, _*_, _≤_}
 use native.Mathlib.Omega.{arith}
-use borrow.Author.Needs.{needs}
 use Rattle.shape.proofs.Valid.{area-le}
 use Rattle.pack.specs.Packs.{packets}
 use Rattle.pack_writer.specs.Writing.{Laid}

@@ -1,7 +1,6 @@
 -- `pack_writer::writing::put_run` meets its contract. The invariant: the packets of the cells before place a are laid. Assumes nothing.
 use Prim.Native.Nat.{_+_, _-_, _*_, _≤_}
 use native.Mathlib.Omega.{arith}
-use borrow.Author.Needs.{needs}
 use Rattle.pack.specs.Packs.{packets}
 use Rattle.pack_writer.specs.Writing.{Laid}
 use Rattle.pack_writer.specs.Inner.Writing.{packetsFrom}

@@ -5,7 +5,7 @@ use borrow.Author.Tests.{eq-eqb, ne-eqb}
 use Rattle.answer.specs.Refusals.{faultNumber}
 use Rattle.answer.specs.Values.{answerValue, refusal, andThen, check, checked}
 use Rattle.answer.proofs.Values.{then-refused}
-use Rattle.shape.specs.Shapes.{Valid, both, cells}
+use Rattle.shape.specs.Shapes.{both, cells}
 use Rattle.shape.proofs.Valid.{area-le, volume-le, bytes-le}
 use Rattle.pack_writer.specs.Writing.{airChecked}
 use Rattle.pack_writer.proofs.Outcomes.{written-passed, written-told, written-not}

@@ -1,6 +1,4 @@
 -- `pack_writer::writing::write_sections` meets its contract. Assumes nothing.
-use mathlib.Core.Path.{_≡_, sym, _∙_}
-use mathlib.Core.Logic.{⊎-elim}
 use native.Mathlib.Omega.{arith}
 use borrow.Author.Needs.{needs}
 use Rattle.pack.proofs.Sound.{sent-told, sent-not, sent-passed}

@@ -1,5 +1,4 @@
 -- `pack_writer::writing::written_bytes` meets its contract. Assumes nothing.
-use native.Mathlib.Omega.{arith}
 use borrow.Author.Needs.{needs}
 use Rattle.answer.specs.Values.{andThen, checked}
 use Rattle.answer.proofs.Values.{then-refused}
