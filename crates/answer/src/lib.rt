@@ -1,4 +1,6 @@
 // Answers: why a call refuses its input, with the numbers of document 01's table.
+#![tactic(auto)]
+
 ghost use Rattle.std.specs.Prelude.{◌≡◌};
 ghost use Rattle.answer.specs.Values.{refusal, number_of, place_of};
 

@@ -1,4 +1,6 @@
 // The packet cube, a product code of three axes with two parity packets on every line: its encoder, of a data string or in place, and its check.
+#![tactic(auto)]
+
 mod checker;
 mod encoder;
 

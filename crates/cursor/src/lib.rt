@@ -1,4 +1,6 @@
 // A cursor through bytes: a count of four bytes, or so many bytes, each read from the byte where the one before ended.
+#![tactic(auto)]
+
 ghost use Rattle.std.specs.Prelude.{◌≡◌, ◌+◌, ◌≤◌, ◌<◌, length};
 ghost use Rattle.answer.specs.Values.{checked, passes};
 ghost use Rattle.cursor.specs.Steps.{word, word_bytes, count, bytes, count_value, bytes_value};

@@ -1,4 +1,6 @@
 // The data string of a cube: one reader and one writer, row by row of data cells.
+#![tactic(auto)]
+
 mod place;
 mod reader;
 mod writer;

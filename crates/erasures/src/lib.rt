@@ -1,4 +1,6 @@
 // Erasures: which cells of a line are missing, counted up to the third. No field stands below it.
+#![tactic(auto)]
+
 ghost use Rattle.std.specs.Prelude.{◌≡◌};
 ghost use Rattle.answer.specs.Values.{checked};
 ghost use Rattle.shape.specs.Flags.{missing};

@@ -1,5 +1,7 @@
 // The field GF(256): addition by exclusive or, multiplication by shift and conditional reduction with masks, with no
 // table and no branch on data. The reduction byte is a parameter; `reduction` is document 01's.
+#![tactic(auto)]
+
 ghost use Rattle.std.specs.Prelude.{◌≡◌, ◌*◌, ◌%◌};
 ghost use Rattle.field.specs.Field.{add, reduction, xtime, mul, pow, inverse};
 

@@ -1,4 +1,6 @@
 // Filling: the erasures of a cube that its lines force, by peeling, exactly.
+#![tactic(auto)]
+
 mod cells;
 mod verify;
 

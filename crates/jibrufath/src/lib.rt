@@ -1,5 +1,7 @@
 // The calls that C and Rust link: a shape as four numbers, an answer as one word of 64 bits. Calls on cubes, on a line, on packs, on plans, on
 // texts, on sizes and in the field.
+#![tactic(auto)]
+
 mod cubes;
 mod elements;
 mod lines;

@@ -1,5 +1,7 @@
 // Lines: both syndromes of many neighbouring lines at once, erasures filled in, codewords written and recognised, single errors
 // corrected. Every public function is total, and exact for every reduction byte.
+#![tactic(auto)]
+
 mod block;
 mod corrector;
 mod encoder;

@@ -1,4 +1,6 @@
 // Mending: single-error correction of every line of a cube in three passes, by axis 1, 2, 3.
+#![tactic(auto)]
+
 mod passes;
 
 ghost use Rattle.std.specs.Prelude.{◌≡◌};

@@ -1,5 +1,7 @@
 // Packs: three sections, each read from the byte where the one before ended. Only this crate and `pack_writer`, whose contracts are made of the definitions
 // of this one, know where a byte of a pack stands.
+#![tactic(auto)]
+
 mod packets;
 mod reading;
 

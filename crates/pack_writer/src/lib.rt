@@ -1,5 +1,7 @@
 // Writing packs, each part from the byte where the one before ended: the bytes that a pack needs, the air pack of every cell of a cube that is sent, and one
 // of any packets part by part.
+#![tactic(auto)]
+
 mod air;
 mod writing;
 

@@ -1,4 +1,6 @@
 // Peeling: fills the missing cells that the lines of a cube force, line after line, until no line misses one or two.
+#![tactic(auto)]
+
 mod on_line;
 mod sweep;
 mod wake;

@@ -1,4 +1,6 @@
 // Splice plans over the receiver: written to the bytes of a file, read from them, and received with a pack. Of the receiver only its contract is used.
+#![tactic(auto)]
+
 mod reading;
 mod writing;
 

@@ -1,4 +1,6 @@
 // The form of a splice plan: closures, fibres and splices, each after its count, and the first byte that breaks it.
+#![tactic(auto)]
+
 mod closures;
 mod fibres;
 mod lists;

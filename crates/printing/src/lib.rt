@@ -1,4 +1,6 @@
 // What the programs print: characters, decimal numbers and hexadecimal bytes, appended to a lent buffer.
+#![tactic(auto)]
+
 ghost use Rattle.std.specs.Prelude.{◌≡◌, ◌≤◌, min};
 ghost use Rattle.printing.specs.Text.{decimal, hex_byte, numbered, triple, number_line, shape_line, refused_line};
 ghost use Rattle.printing.specs.Append.{Appended};

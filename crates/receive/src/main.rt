@@ -1,4 +1,6 @@
 // Receive: reads an air pack on standard input and prints what came of it: the file, or the cells that are left.
+#![tactic(auto)]
+
 mod pieces;
 mod receiving;
 

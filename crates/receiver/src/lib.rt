@@ -1,4 +1,6 @@
 // The receiver: gathers the packets of an air pack into a cube, fills what the lines force, and opens the file only where nothing is left.
+#![tactic(auto)]
+
 mod file;
 mod gathering;
 mod placing;

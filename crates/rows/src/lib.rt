@@ -1,4 +1,6 @@
 // Rows: runs of one form, each a fixed number of bytes behind the one before. Where they are narrow, 64 of them are gathered into strips.
+#![tactic(auto)]
+
 ghost use Rattle.std.specs.Prelude.{◌≡◌, ◌+◌, ◌*◌, ◌-◌, ◌^◌, ◌<◌, ◌≤◌, length};
 ghost use Rattle.span.specs.Decision.{Decides};
 ghost use Rattle.line.specs.Run.{Inside};

@@ -1,4 +1,6 @@
 // The shape of a cube: its limits and sizes, the lines of its three axes, the flags of its cells. No field stands below it.
+#![tactic(auto)]
+
 pub mod flags;
 
 ghost use Rattle.std.specs.Prelude.{◌≡◌, ◌+◌, ◌*◌, ◌/◌, ◌%◌, ◌≤◌, ◌<◌, ltb};

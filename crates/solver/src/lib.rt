@@ -1,5 +1,7 @@
 // The two equations of a line, solved: for the bytes at two erasures, and for the place of one error. Every public function is total, and
 // exact for every reduction byte.
+#![tactic(auto)]
+
 ghost use Rattle.std.specs.Prelude.{◌≡◌, [], ◌∷◌};
 ghost use Rattle.solver.specs.Solver.{row0, row1, PlaceOutcome};
 ghost use Rattle.solver.specs.Inner.Solver.{entry, inverted};

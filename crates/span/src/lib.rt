@@ -1,4 +1,6 @@
 // Spans: so many bytes of a slice from a place on, copied, set, compared, tested for 00h. Every public function is total.
+#![tactic(auto)]
+
 ghost use Rattle.std.specs.Prelude.{◌+◌, ◌≤◌, length};
 ghost use Rattle.span.specs.Decision.{Decides};
 ghost use Rattle.span.specs.Span.{Copied, Piece, CopyOutcome, StripOutcome, SetOutcome, SameBytes, ZeroBytes};

@@ -1,5 +1,7 @@
 // Strips: the bytes of 64 neighbouring lines, or of 64 lines whose bytes were gathered, at one place. They are taken and given back by value,
 // so that the compiler sees that nothing else can change them and keeps them in registers. Every public function is total.
+#![tactic(auto)]
+
 ghost use Rattle.std.specs.Prelude.{◌≡◌, ◌⊎◌, ◌<◌, ◌≤◌};
 ghost use Rattle.span.specs.Decision.{Decides};
 ghost use Rattle.strip.specs.Strip.{Step, Products, Sums, BothZero};

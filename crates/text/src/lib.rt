@@ -1,4 +1,6 @@
 // The text of an air pack (request P1): its form, a line for the shape and one for each packet, and its reader.
+#![tactic(auto)]
+
 mod lines;
 mod numbers;
 mod reader;

@@ -1,4 +1,6 @@
 // From an air pack of count 5 to its text: the text's length, and its lines one behind the other in a slice of exactly that length.
+#![tactic(auto)]
+
 ghost use Rattle.std.specs.Prelude.{◌≡◌, ◌+◌, ◌*◌, ◌≤◌, ◌<◌, length, take, drop};
 ghost use Rattle.answer.specs.Values.{answer_value, checked, passes};
 ghost use Rattle.shape.specs.Shapes.{Valid};

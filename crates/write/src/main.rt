@@ -1,4 +1,6 @@
 // Write: reads a job pack on standard input and writes the air pack of its file, or says why not.
+#![tactic(auto)]
+
 ghost use Rattle.std.specs.Prelude.{◌≡◌, ◌≤◌, length, take};
 ghost use Rattle.io.specs.Counts.{IsPrefixLen};
 ghost use Rattle.answer.specs.Values.{passes};

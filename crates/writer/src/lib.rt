@@ -1,4 +1,6 @@
 // The writer: a job pack with a file becomes an air pack of every cell of the file's code cube that is sent.
+#![tactic(auto)]
+
 ghost use Rattle.std.specs.Prelude.{◌≡◌, ◌*◌, eqb, length};
 ghost use Rattle.answer.specs.Values.{answer_value};
 ghost use Rattle.field.specs.Field.{reduction};
