@@ -31,6 +31,10 @@ decides-same false false d e = refl
 pub decides-false : {P : Type 0} {answer : Bool} → Decides P answer → answer ≡ false → P → ⊥
 decides-false d e p = true≢false (sym (d.yes_when p) ∙ e)
 
+-- where it is true
+pub decides-true : {P : Type 0} {answer : Bool} → Decides P answer → answer ≡ true → P
+decides-true d e = d.yes_then e
+
 -- by a negated answer
 pub decides-refuted : {P : Type 0} {answer : Bool} → Decides P answer → not answer ≡ true → P → ⊥
 decides-refuted d e p = decides-false d (not-true _ e) p

@@ -9,12 +9,8 @@ use lib.Pow.{pow_pos}
 use borrow.Author.Rules.{rules}
 use Rattle.field.specs.Field.{mul, expt, inverse}
 use Rattle.field.proofs.Power.{expt-one, expt-add}
-use Rattle.field.proofs.inverse.Statement.{statement}
-use Rattle.field.proofs.inverse.Tie as tie
-
-pub record Squares (r a n s p : ℕ) : Type 0 where
-  pub square : s ≡ expt r a (2 ^ n)
-  pub product : p ≡ expt r a (2 ^ n * 2 - 2)
+use Rattle.field.proofs.inverse.Invariants.{Squares}
+use Rattle.field.proofs.inverse.Goals as goal
 
 squares-zero : (r a : ℕ) → a < 256 → Squares r a 0 a 1
 unfolding expt
@@ -37,36 +33,12 @@ squares-inverse : (r a n s p : ℕ) → n ≡ 7 → Squares r a n s p → p ≡ 
 unfolding inverse
 squares-inverse r a n s p e q = q.product ∙ ap (λ (m : ℕ). expt r a (2 ^ m * 2 - 2)) e
 
-abbrev invariant-loop : tie.invariant-loop
-invariant-loop reduction a square₀ product₀ n₀ square product n =
-    (n ≤ 7) × Squares reduction a n square product
+pub loop-n-init : goal.loop-n-init
+loop-n-init c = (omega arith, squares-zero _ _ (omega arith))
 
-abbrev decreases-loop : tie.decreases-loop
-decreases-loop reduction a square₀ product₀ n₀ square product n = 7 - n
+pub loop-n-preserved : goal.loop-n-preserved
+loop-n-preserved c =
+    (omega arith, squares-suc _ _ _ _ _ _ _ (omega arith) c.loop-n.invariant.1 c.mul-square.ensures c.mul-product.ensures)
 
-loop-holds : tie.Need-loop-init invariant-loop decreases-loop
-loop-holds c = (omega arith, squares-zero _ _ (omega arith))
-
-mul-requires : tie.Need-mul-requires invariant-loop decreases-loop
-mul-requires c κs = search rules
-
-mul-requires-2 : tie.Need-mul-requires-2 invariant-loop decreases-loop
-mul-requires-2 c κs = search rules
-
-add-n : tie.Need-overflow-add-n invariant-loop decreases-loop
-add-n c = omega arith
-
-loop-less : tie.Need-loop-smaller invariant-loop decreases-loop
-loop-less c = omega arith
-
-loop-again : tie.Need-loop-preserved invariant-loop decreases-loop
-loop-again c =
-    (omega arith, squares-suc _ _ _ _ _ _ _ (omega arith) c.before.before.before.loop.invariant.1 c.before.mul.ensures c.mul2.ensures)
-
-returns : tie.Need-returns invariant-loop decreases-loop
-returns c = squares-inverse _ _ _ _ _ (omega arith) c.before.loop.invariant.1
-
-pub inverse-spec : {M : Type 1} → statement M
-inverse-spec =
-    tie.close
-    (tie.spec invariant-loop decreases-loop loop-holds mul-requires mul-requires-2 add-n loop-less loop-again returns)
+pub returns : goal.returns
+returns c = squares-inverse _ _ _ _ _ (omega arith) c.loop-n.invariant.1

@@ -7,8 +7,7 @@ use borrow.Author.Rules.{rules}
 use Rattle.field.specs.Field.{add, xtime, mul_bits, mul}
 use Rattle.field.proofs.Addition.{add_zero_r}
 use Rattle.field.proofs.Multiplication.{xtime-zero}
-use Rattle.field.proofs.mul.Statement.{statement}
-use Rattle.field.proofs.mul.Tie as tie
+use Rattle.field.proofs.mul.Goals as goal
 
 -- one more bit of b, by Horner's rule
 mul_bits-step : (r a n d e p q : ℕ) → a < 256 → e ≡ d / 2 → p ≡ mul_bits r a n e → q ≡ add ((d % 2) * a) (xtime r p) → q ≡ mul_bits r a (suc n) d
@@ -42,52 +41,14 @@ mul-steps r a b p₇ p₆ p₅ p₄ p₃ p₂ p₁ p₀ h e₇ e₆ e₅ e₄ e�
     first : p₇ ≡ add ((b / 128 % 2) * a) (xtime r 0)
     first = e₇ ∙ sym (rw xtime-zero (add_zero_r _))
 
-masked-requires : tie.Need-masked-requires
-masked-requires c κs = search rules
-
-step-requires : tie.Need-step-requires
-step-requires c κs = search rules
-
-step-requires-2 : tie.Need-step-requires-2
-step-requires-2 c κs = search rules
-
-step-requires-3 : tie.Need-step-requires-3
-step-requires-3 c κs = search rules
-
-step-requires-4 : tie.Need-step-requires-4
-step-requires-4 c κs = search rules
-
-step-requires-5 : tie.Need-step-requires-5
-step-requires-5 c κs = search rules
-
-step-requires-6 : tie.Need-step-requires-6
-step-requires-6 c κs = search rules
-
-step-requires-7 : tie.Need-step-requires-7
-step-requires-7 c κs = search rules
-
-returns : tie.Need-returns
+pub returns : goal.returns
 returns c =
     mul-steps _ _ _ _ _ _ _ _ _ _ _ (omega arith)
-    c.before.before.before.before.before.before.before.masked.ensures
-    c.before.before.before.before.before.before.step.ensures
-    c.before.before.before.before.before.step2.ensures
-    c.before.before.before.before.step3.ensures
-    c.before.before.before.step4.ensures
-    c.before.before.step5.ensures
-    c.before.step6.ensures
-    c.step7.ensures
-
-pub mul-spec : {M : Type 1} → statement M
-mul-spec =
-    tie.close
-    (tie.spec
-    masked-requires
-    step-requires
-    step-requires-2
-    step-requires-3
-    step-requires-4
-    step-requires-5
-    step-requires-6
-    step-requires-7
-    returns)
+    c.masked-p.ensures
+    c.step-p.ensures
+    c.step-p-2.ensures
+    c.step-p-3.ensures
+    c.step-p-4.ensures
+    c.step-p-5.ensures
+    c.step-p-6.ensures
+    c.step.ensures

@@ -7,8 +7,7 @@ use borrow.Author.Rules.{rules}
 use Rattle.field.specs.Field.{add, xtime, mul_bits, mul}
 use Rattle.field.proofs.Addition.{add_zero_r, add-self, add-swap}
 use Rattle.field.proofs.Multiplication.{xtime-zero, xtime-add}
-use Rattle.field.proofs.dot.Statement.{statement}
-use Rattle.field.proofs.dot.Tie as tie
+use Rattle.field.proofs.dot.Goals as goal
 
 -- one more bit of b and of d
 dot-more : (r a c n b b' d d' p q : ℕ) → a < 256 → c < 256 → b' ≡ b / 2 → d' ≡ d / 2
@@ -53,52 +52,14 @@ dot-steps r a b c d p₇ p₆ p₅ p₄ p₃ p₂ p₁ p₀ ha hc e₇ e₆ e₅
     first : p₇ ≡ add (add ((b / 128 % 2) * a) ((d / 128 % 2) * c)) (xtime r 0)
     first = e₇ ∙ sym (rw xtime-zero (add_zero_r _))
 
-masked-sum-requires : tie.Need-masked-sum-requires
-masked-sum-requires c κs = search rules
-
-dot-step-requires : tie.Need-dot-step-requires
-dot-step-requires c κs = search rules
-
-dot-step-requires-2 : tie.Need-dot-step-requires-2
-dot-step-requires-2 c κs = search rules
-
-dot-step-requires-3 : tie.Need-dot-step-requires-3
-dot-step-requires-3 c κs = search rules
-
-dot-step-requires-4 : tie.Need-dot-step-requires-4
-dot-step-requires-4 c κs = search rules
-
-dot-step-requires-5 : tie.Need-dot-step-requires-5
-dot-step-requires-5 c κs = search rules
-
-dot-step-requires-6 : tie.Need-dot-step-requires-6
-dot-step-requires-6 c κs = search rules
-
-dot-step-requires-7 : tie.Need-dot-step-requires-7
-dot-step-requires-7 c κs = search rules
-
-returns : tie.Need-returns
+pub returns : goal.returns
 returns c =
     dot-steps _ _ _ _ _ _ _ _ _ _ _ _ _ (omega arith) (omega arith)
-    c.before.before.before.before.before.before.before.masked-sum.ensures
-    c.before.before.before.before.before.before.dot-step.ensures
-    c.before.before.before.before.before.dot-step2.ensures
-    c.before.before.before.before.dot-step3.ensures
-    c.before.before.before.dot-step4.ensures
-    c.before.before.dot-step5.ensures
-    c.before.dot-step6.ensures
-    c.dot-step7.ensures
-
-pub dot-spec : {M : Type 1} → statement M
-dot-spec =
-    tie.close
-    (tie.spec
-    masked-sum-requires
-    dot-step-requires
-    dot-step-requires-2
-    dot-step-requires-3
-    dot-step-requires-4
-    dot-step-requires-5
-    dot-step-requires-6
-    dot-step-requires-7
-    returns)
+    c.masked_sum-p.ensures
+    c.dot_step-p.ensures
+    c.dot_step-p-2.ensures
+    c.dot_step-p-3.ensures
+    c.dot_step-p-4.ensures
+    c.dot_step-p-5.ensures
+    c.dot_step-p-6.ensures
+    c.dot_step.ensures

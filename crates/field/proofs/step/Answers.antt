@@ -1,0 +1,9 @@
+-- `step` adds what the two calls give.
+use mathlib.Core.Path.{ap₂}
+use borrow.Author.Rules.{rules}
+use Rattle.field.specs.Field.{add}
+use Rattle.field.proofs.step.Goals as goal
+
+pub returns : goal.returns
+unfolding add
+returns c = ap₂ add c.masked.ensures c.xtime.ensures

@@ -1,0 +1,24 @@
+-- `copy_bytes` writes byte after byte: those below i are copied, all others kept.
+use mathlib.Core.Path.{◌≡◌, refl}
+use Prim.Native.Nat.{◌≤◌, ◌-◌}
+use native.Mathlib.Omega.{arith}
+use Rattle.span.specs.Span.{Copied}
+use Rattle.span.proofs.Copying.{copied_none, copied_more}
+use Rattle.span.proofs.copy_bytes.Goals as goal
+
+pub loop-i-init : goal.loop-i-init
+loop-i-init c = (omega arith, copied_none _ _ _ _)
+
+pub bounds-dst-to : goal.bounds-dst-to
+bounds-dst-to c = omega (arith, c.loop-i.invariant.1.kept.size)
+
+pub loop-i-preserved : goal.loop-i-preserved
+loop-i-preserved c = (omega arith, copied_more _ _ _ _ _ _ _ _ refl refl (omega (arith, c.loop-i.invariant.1.kept.size)) c.loop-i.invariant.1)
+
+pub shape_of-dst : goal.shape_of-dst
+shape_of-dst c = c.loop-i.invariant.1.kept.size
+
+pub returns : goal.returns
+returns c =
+    let all : c.loop-i.i ≡ c.args.n = omega arith in
+    rw all at c.loop-i.invariant.1

@@ -1,0 +1,40 @@
+-- `same` joins the differences in one byte, which is 00h exactly when all are.
+use mathlib.Core.Path.{◌≡◌}
+use mathlib.Core.List.{List}
+use Prim.Native.Nat.{ℕ, ◌+◌, ◌-◌, ◌≤◌}
+use native.Mathlib.Omega.{arith}
+use lib.ListN.{get_or}
+use borrow.Author.Rules.{rules}
+use Rattle.span.specs.Span.{BothInside}
+use Rattle.span.proofs.Decision.{decides-no, decides_eq, decides-false, decides-true}
+use Rattle.span.proofs.Joining.{Joined, joined-none, joined-more, xor-zero, xor_same}
+use Rattle.span.proofs.same.Invariants.{Agree}
+use Rattle.span.proofs.same.Goals as goal
+
+pub returns-then-not-inside : goal.returns-then-not-inside
+returns-then-not-inside c = decides-no (λ h. decides-false c.inside.ensures c.if-not-inside.true h.inside.0)
+
+pub returns-then-not-inside-2 : goal.returns-then-not-inside-2
+returns-then-not-inside-2 c = decides-no (λ h. decides-false c.inside-2.ensures c.if-not-inside-2.true h.inside.1)
+
+pub loop-i-init : goal.loop-i-init
+loop-i-init c = (
+  omega arith,
+  (
+    decides-true c.inside.ensures c.if-not-inside.false,
+    decides-true c.inside-2.ensures c.if-not-inside-2.false,
+  ),
+  joined-none _,
+)
+
+pub loop-i-preserved : goal.loop-i-preserved
+loop-i-preserved c =
+    let inv = c.loop-i.invariant in
+    (omega arith, inv.1, joined-more _ _ _ _ inv.2 (xor-zero _ _) (xor_same _ _))
+
+pub returns : goal.returns
+returns c =
+    let inv = c.loop-i.invariant in
+    let all : c.loop-i.i ≡ c.args.n = omega arith in
+    decides_eq _ _ (λ h. inv.2.zero (λ i l. h.bytes i (omega arith)))
+    (λ e. record { inside = inv.1; bytes = λ i l. inv.2.all e i (omega arith) })
