@@ -5,7 +5,7 @@ ghost use Rattle.std.specs.Prelude.{◌≡◌};
 ghost use Rattle.answer.specs.Values.{refusal, number_of, place_of};
 
 // Why a call refuses, in the order of document 01's table.
-#[derive(Drop)]
+#[derive(Clone, Copy)]
 pub enum Fault {
     Dimension,
     PacketSize,
@@ -25,14 +25,14 @@ pub enum Fault {
 }
 
 // Why a packet is refused.
-#[derive(Drop)]
+#[derive(Clone, Copy)]
 pub enum PacketFault {
     CellIndex,
 }
 
 // A refusal: of the whole call, of a packet with its index from 0, of a line of a text with its number from 1, or of an entry of a plan with its
 // offset in the file.
-#[derive(Drop)]
+#[derive(Clone, Copy)]
 pub enum Refusal {
     Plain(Fault),
     Packet(PacketFault, u64),
@@ -41,7 +41,7 @@ pub enum Refusal {
 }
 
 // What a call without a result of its own answers.
-#[derive(Drop)]
+#[derive(Clone, Copy)]
 pub enum Answer {
     Done,
     Refused(Refusal),

@@ -14,7 +14,7 @@ use answer::{Answer, Fault, Refusal};
 use shape::{Measured, Shape};
 
 // What the check of a cube answers: whether it is a code cube.
-#[derive(Drop)]
+#[derive(Clone, Copy)]
 pub enum CubeCheck {
     Code(bool),
     Refused(Refusal),

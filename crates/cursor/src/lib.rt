@@ -6,20 +6,20 @@ ghost use Rattle.answer.specs.Values.{checked, passes};
 ghost use Rattle.cursor.specs.Steps.{word, word_bytes, count, bytes, count_value, bytes_value};
 
 // A place in a pack.
-#[derive(Drop)]
+#[derive(Clone, Copy)]
 pub struct Cursor {
     pub at: usize,
 }
 
 // A count and the cursor behind it; or the pack ended.
-#[derive(Drop)]
+#[derive(Clone, Copy)]
 pub enum CountRead {
     Count(usize, Cursor),
     Cut,
 }
 
 // Where the bytes begin and the cursor behind them; or the pack ended.
-#[derive(Drop)]
+#[derive(Clone, Copy)]
 pub enum BytesRead {
     Bytes(usize, Cursor),
     Cut,

@@ -13,7 +13,7 @@ use answer::{Answer, Fault, Refusal};
 use shape::{Measured, Shape};
 
 // What a test of the data string answers: whether it is 00h.
-#[derive(Drop)]
+#[derive(Clone, Copy)]
 pub enum DataCheck {
     Zero(bool),
     Refused(Refusal),

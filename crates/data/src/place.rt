@@ -6,7 +6,7 @@ ghost use Rattle.data.specs.Inner.Place.{Standing};
 use shape::Shape;
 
 // Bytes of the data string that stand together: where in the cube, how many up to the end of their row, and the row's second coordinate.
-#[derive(Drop)]
+#[derive(Clone, Copy)]
 pub(crate) struct Stretch {
     pub(crate) at: usize,
     pub(crate) len: usize,

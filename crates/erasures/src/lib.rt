@@ -13,20 +13,20 @@ use shape::{Line, LineAnswer, Shape};
 
 // What a scan of a line tells: how many erasures were found, at most three, and how many places were read to find them (request P2: holes and
 // places read).
-#[derive(Drop)]
+#[derive(Clone, Copy)]
 pub struct ScanCounts {
     pub erasures: usize,
     pub read: usize,
 }
 
-#[derive(Drop)]
+#[derive(Clone, Copy)]
 pub enum ScanAnswer {
     Scanned(ScanCounts),
     Refused(Refusal),
 }
 
 // The missing cells of a line: how many, at most three, how many places were read, and the first and the last of them that misses a cell.
-#[derive(Drop)]
+#[derive(Clone, Copy)]
 pub struct MissingPlaces {
     pub count: usize,
     pub read: usize,

@@ -13,7 +13,7 @@ use answer::{Answer, Fault, Refusal};
 use shape::{Measured, Shape};
 
 // How many cells are left, or a refusal.
-#[derive(Drop)]
+#[derive(Clone, Copy)]
 pub enum FillAnswer {
     Left(usize),
     Refused(Refusal),

@@ -10,7 +10,7 @@ use pack_writer::PackSize;
 use shape::{Measured, Shape};
 
 // The word of each size.
-#[derive(Drop)]
+#[derive(Clone, Copy)]
 struct SizeWords {
     cells: u64,
     cube: u64,

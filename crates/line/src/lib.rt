@@ -14,7 +14,7 @@ ghost use Rattle.line.specs.Run.{erasures_at, SolveRun, EncodeRun, CheckRun, Cor
 ghost use Rattle.span.specs.Decision.{Decides};
 
 // Neighbouring lines of one length: place i of line t is the byte first + stride * i + t, for t below width.
-#[derive(Drop)]
+#[derive(Clone, Copy)]
 pub struct Run {
     pub first: usize,
     pub stride: usize,
@@ -24,7 +24,7 @@ pub struct Run {
 
 // The erasures j ≤ k of each line of a run, one erasure where they are equal, with the row [b, d] of the inverted array that gives
 // the byte at k. Only `erasures_at` builds one.
-#[derive(Drop)]
+#[derive(Clone, Copy)]
 pub struct Erasures {
     j: usize,
     k: usize,

@@ -11,14 +11,14 @@ use cursor::Cursor;
 pub use writing::{pack_bytes, write_air, written_bytes};
 
 // The cursor behind what stands before the packets of an air pack.
-#[derive(Drop)]
+#[derive(Clone, Copy)]
 pub enum AirStart {
     Started(Cursor),
     Refused(Refusal),
 }
 
 // The bytes of a pack with every cell that is sent, or with so many packets.
-#[derive(Drop)]
+#[derive(Clone, Copy)]
 pub enum PackSize {
     Bytes(usize),
     Refused(Refusal),

@@ -15,7 +15,7 @@ use line::Run;
 use shape::{Line, Shape};
 
 // How many neighbouring lines were visited, and how many cells filled on them.
-#[derive(Drop)]
+#[derive(Clone, Copy)]
 pub(crate) struct Progress {
     pub lines: usize,
     pub filled: usize,

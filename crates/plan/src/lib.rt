@@ -18,7 +18,7 @@ use plan_form::{PlanCounts, PlanRead};
 use receiver::{Counts, Ending, Received};
 
 // The receiver's answer, and the entries of the plan that is shown; without one these are 0.
-#[derive(Drop)]
+#[derive(Clone, Copy)]
 pub struct PlanReceived {
     pub received: Received,
     pub entries: PlanCounts,

@@ -16,7 +16,7 @@ ghost use Rattle.plan_form.specs.Form.{FormOutcome, plan_end, plan_in, plan_valu
 use answer::{Answer, Refusal};
 
 // How many entries each section of a plan has.
-#[derive(Drop)]
+#[derive(Clone, Copy)]
 pub struct PlanCounts {
     pub closures: usize,
     pub fibres: usize,
@@ -24,7 +24,7 @@ pub struct PlanCounts {
 }
 
 // The counts of a plan, or why there is none.
-#[derive(Drop)]
+#[derive(Clone, Copy)]
 pub enum PlanRead {
     Counted(PlanCounts),
     Refused(Refusal),

@@ -1,5 +1,5 @@
 // A section of a plan: the byte where its entries begin, and how many there are.
-#[derive(Drop)]
+#[derive(Clone, Copy)]
 pub(crate) struct Section {
     pub(crate) at: usize,
     pub(crate) count: usize,

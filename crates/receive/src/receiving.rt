@@ -12,7 +12,7 @@ use receiver::{Ending, Received};
 use shape::Shape;
 
 // What came of a pack that was received: the cells left, and the bytes of the file where none is left.
-#[derive(Drop)]
+#[derive(Clone, Copy)]
 pub(crate) struct Report {
     pub(crate) shape: Shape,
     pub(crate) packets: usize,
@@ -22,7 +22,7 @@ pub(crate) struct Report {
 }
 
 // What there is to print: a refusal by its number.
-#[derive(Drop)]
+#[derive(Clone, Copy)]
 pub(crate) enum Outcome {
     TooBig,
     Refused(u64),

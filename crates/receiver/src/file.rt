@@ -12,7 +12,7 @@ use data::DataCheck;
 use shape::Shape;
 
 // The length of the file, or a data string that holds none.
-#[derive(Drop)]
+#[derive(Clone, Copy)]
 pub(crate) enum Opening {
     Held(usize),
     Bad,

@@ -16,7 +16,7 @@ use pack::{Header, Section};
 use shape::Shape;
 
 // How gathering ends: with an answer, or with a whole cube and the counts of its pack.
-#[derive(Drop)]
+#[derive(Clone, Copy)]
 pub(crate) enum Gathering {
     Ends(Ending, Counts),
     Whole(Counts),

@@ -19,7 +19,7 @@ use pack::AirRead;
 use shape::Sizes;
 
 // How a pack ends: a file of so many bytes, so many cells left, or a refusal.
-#[derive(Drop)]
+#[derive(Clone, Copy)]
 pub enum Ending {
     File(usize),
     Left(usize),
@@ -28,7 +28,7 @@ pub enum Ending {
 
 // The packets of a pack; its repeats, the packets whose cell had come before; its conflicts, the cells whose copies are not all equal. All are
 // 0 with a refusal.
-#[derive(Drop)]
+#[derive(Clone, Copy)]
 pub struct Counts {
     pub packets: usize,
     pub repeats: usize,
@@ -36,7 +36,7 @@ pub struct Counts {
 }
 
 // The answer: how a pack ended, with its counts.
-#[derive(Drop)]
+#[derive(Clone, Copy)]
 pub struct Received {
     pub ending: Ending,
     pub counts: Counts,

@@ -10,7 +10,7 @@ ghost use Rattle.shape.specs.Shapes.{Valid, within, lengths_fit, shape_checked, 
 use answer::{Fault, Refusal};
 
 // Lengths of the three axes and the bytes of a cell (document 01: L1, L2, L3, W).
-#[derive(Drop)]
+#[derive(Clone, Copy)]
 pub struct Shape {
     pub l1: usize,
     pub l2: usize,
@@ -19,7 +19,7 @@ pub struct Shape {
 }
 
 // What a shape needs: its cells, the bytes of its cube, and the bytes of its data string.
-#[derive(Drop)]
+#[derive(Clone, Copy)]
 pub struct Sizes {
     pub cells: usize,
     pub bytes: usize,
@@ -27,20 +27,20 @@ pub struct Sizes {
 }
 
 // A line of an axis: its first cell, the stride from cell to cell, and its length.
-#[derive(Drop)]
+#[derive(Clone, Copy)]
 pub struct Line {
     pub first: usize,
     pub stride: usize,
     pub len: usize,
 }
 
-#[derive(Drop)]
+#[derive(Clone, Copy)]
 pub enum Measured {
     Fits(Sizes),
     Refused(Refusal),
 }
 
-#[derive(Drop)]
+#[derive(Clone, Copy)]
 pub enum LineAnswer {
     Found(Line),
     Refused(Refusal),

@@ -7,7 +7,7 @@ ghost use Rattle.solver.specs.Solver.{row0, row1, PlaceOutcome};
 ghost use Rattle.solver.specs.Inner.Solver.{entry, inverted};
 
 // Where a single error stands on a line.
-#[derive(Drop)]
+#[derive(Clone, Copy)]
 pub enum Place {
     At(usize),
     Nowhere,

@@ -9,21 +9,21 @@ use crate::numbers::{NumberRead, number};
 use shape::Shape;
 
 // Three numbers, and the place behind the last; or they don't stand there.
-#[derive(Drop)]
+#[derive(Clone, Copy)]
 pub(crate) enum ThreeRead {
     Three(usize, usize, usize, usize),
     Nothing,
 }
 
 // The a, b and c of a packet line, and the place behind the line; or no packet line stands there.
-#[derive(Drop)]
+#[derive(Clone, Copy)]
 pub(crate) enum PacketLine {
     Line(usize, usize, usize, usize),
     Nothing,
 }
 
 // The shape of line 1, and the place behind the line; or line 1 is none.
-#[derive(Drop)]
+#[derive(Clone, Copy)]
 pub(crate) enum ShapeLine {
     Line(Shape, usize),
     Nothing,

@@ -3,7 +3,7 @@ ghost use Rattle.printing.specs.Text.{decimal};
 ghost use Rattle.text.specs.Inner.Numbers.{DigitOutcome, NumberOutcome};
 
 // A number, and the place behind its last digit; or no number stands there.
-#[derive(Drop)]
+#[derive(Clone, Copy)]
 pub(crate) enum NumberRead {
     Number(usize, usize),
     Nothing,

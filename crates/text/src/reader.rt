@@ -17,7 +17,7 @@ use cursor::Cursor;
 use pack_writer::{AirStart, PackSize};
 
 // Where the next line and the next packet begin.
-#[derive(Drop)]
+#[derive(Clone, Copy)]
 pub(crate) struct Turn {
     pub(crate) at: usize,
     pub(crate) next: Cursor,

@@ -13,7 +13,7 @@ const MOST: usize = 4294967295;
 
 // A text in the form: the shape of line 1, the packet lines, how many of the first packets lie inside the shape's lengths, and the byte
 // where the packet lines begin.
-#[derive(Drop)]
+#[derive(Clone, Copy)]
 pub(crate) struct Contents {
     pub(crate) shape: Shape,
     pub(crate) packets: usize,
@@ -22,7 +22,7 @@ pub(crate) struct Contents {
 }
 
 // A text in the form, or the number of the first line that breaks it.
-#[derive(Drop)]
+#[derive(Clone, Copy)]
 pub(crate) enum Scanned {
     Whole(Contents),
     Broken(u64),

@@ -1,0 +1,16 @@
+-- `shape::flags::valid` meets its contract. The invariant: what was joined and what is left decide. Assumes nothing.
+use mathlib.Core.Path.{◌≡◌, refl, sym, ◌∙◌}
+use Prim.Native.Nat.{◌≤◌, ◌-◌}
+use native.Mathlib.Omega.{arith}
+use lib.Dec.{eqb, leb}
+use lib.ListN.{length, drop}
+use Rattle.shape.specs.Shapes.{both}
+use Rattle.shape.specs.Flags.{flags_valid}
+use Rattle.shape.proofs.Scan.{or-high, scan-joined, scan-ended}
+use Rattle.shape.proofs.flags.valid.Given as goal
+
+abbrev pub invariant-loop-n : goal.invariant-loop-n
+invariant-loop-n l = (l.n ≤ length l.flags) × (flags_valid l.flags ≡ both (eqb l.any 0) (flags_valid (drop l.n l.flags)))
+
+abbrev pub decreases-loop-n : goal.decreases-loop-n
+decreases-loop-n l = length l.flags - l.n

@@ -1,0 +1,34 @@
+-- `strip::step` takes one of Horner's steps for 64 lines.
+use mathlib.Core.Path.{◌≡◌, refl}
+use Prim.Native.Nat.{◌-◌, ◌≤◌}
+use native.Mathlib.Omega.{arith}
+use lib.ListN.{length, length-set, get_or}
+use Rattle.field.specs.Field.{add, xtime}
+use Rattle.strip.proofs.Updated.{Updated, updated_none, updated-more}
+use Rattle.strip.proofs.step.Goals as goal
+
+pub loop-t-init : goal.loop-t-init
+loop-t-init c = (omega arith, refl, refl, λ e. updated_none _ 0 0 _ refl, λ e. updated_none _ 0 0 _ refl)
+
+pub xtime-requires : goal.xtime-requires
+xtime-requires c = tt
+
+pub loop-t-preserved : goal.loop-t-preserved
+unfolding add
+loop-t-preserved c =
+    let inv = c.loop-t.invariant in (
+      omega arith,
+      simp length-set inv.1,
+      simp length-set inv.2,
+      λ e. updated-more (inv.3 e) _ _ (omega arith) (omega arith) refl refl,
+      λ e. updated-more (inv.4 e) _ _ (omega arith) (omega arith) (rw c.xtime.ensures) refl,
+    )
+
+pub returns : goal.returns
+returns c =
+    record {
+      size0 = c.loop-t.invariant.1;
+      size1 = c.loop-t.invariant.2;
+      first = λ e t h. (c.loop-t.invariant.3 e).done t (omega arith) (omega arith);
+      second = λ e t h. (c.loop-t.invariant.4 e).done t (omega arith) (omega arith);
+    }
