@@ -1,0 +1,20 @@
+-- `data::reader::copy_data` goes stretch by stretch: the bytes before `done` are copied, and the next one begins a stretch. Assumes nothing.
+use mathlib.Core.Path.{◌≡◌}
+use Prim.Native.Nat.{◌+◌, ◌-◌, ◌≤◌, ◌<◌}
+use native.Mathlib.Omega.{arith}
+use lib.ListN.{length}
+use borrow.Author.Rules.{rules}
+use Rattle.span.specs.Span.{Copied}
+use Rattle.span.proofs.Copying.{copied_none}
+use Rattle.data.specs.Data.{held_data}
+use Rattle.data.specs.Inner.Place.{Standing}
+use Rattle.data.proofs.Placing.{standing-same, standing-inside, smaller-pos}
+use Rattle.data.proofs.Reading.{read_more}
+use Rattle.data.proofs.reader.copy_data.Given as goal
+
+abbrev pub invariant-loop-done : goal.invariant-loop-done
+invariant-loop-done l =
+    (l.done ≤ l.n) × Copied (held_data l.sh l.cube) l.from l.initial.out l.to l.done l.out × (l.done < l.n → Standing l.sh (l.from + l.done) l.s)
+
+abbrev pub decreases-loop-done : goal.decreases-loop-done
+decreases-loop-done l = l.n - l.done

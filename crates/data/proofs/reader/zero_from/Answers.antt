@@ -1,0 +1,74 @@
+-- `data::reader::zero_from` goes stretch by stretch: the bytes from `from` on before q are 00h, and byte q begins a stretch. Assumes nothing.
+use mathlib.Core.Path.{◌≡◌, refl, sym, ◌∙◌}
+use mathlib.Core.Bool.{false≢true}
+use Prim.Native.Nat.{ℕ, ◌+◌, ◌*◌, ◌-◌, ◌≤◌, ◌<◌}
+use native.Mathlib.Omega.{arith}
+use borrow.Author.Rules.{rules}
+use borrow.Author.Tests.{not-true, not-false}
+use Rattle.shape.specs.Shapes.{cells, capacity}
+use Rattle.data.specs.Data.{data_of}
+use Rattle.data.specs.Inner.Place.{Standing}
+use Rattle.data.proofs.Placing.{standing-end, standing-inside}
+use Rattle.data.proofs.Reading.{zero_more, zero-stretch}
+use Rattle.data.proofs.reader.zero_from.Goals as goal
+use Rattle.data.proofs.reader.zero_from.Goals.{In-loop-q}
+
+abbrev start : tie.In-loop invariant-loop decreases-loop → tie.Start invariant-loop decreases-loop
+start c = c.before.before.before.before.before
+
+-- byte q is one of the data string
+below : (c : tie.In-loop invariant-loop decreases-loop) → c.before.loop.q < capacity (start c).args.sh
+below c = omega (arith, (start c).requires.2)
+
+-- and its stretch lies inside
+ends : (c : tie.In-loop invariant-loop decreases-loop) → c.before.loop.q + c.before.loop.s.len ≤ (start c).args.end
+ends c = omega (arith, (start c).requires.2, standing-end _ _ _ (start c).requires.0 c.before.loop.invariant.2 (below c))
+
+inside : (c : tie.In-loop invariant-loop decreases-loop) → c.before.loop.s.at + c.before.loop.s.len ≤ (start c).args.sh.w * cells (start c).args.sh
+inside c = standing-inside _ _ _ (start c).requires.0 c.before.loop.invariant.2 (below c)
+
+pub stretch_at-s-requires : goal.stretch_at-s-requires
+stretch_at-s-requires c = (c.requires.0, omega (arith, c.smaller-q.ensures.1, c.requires.2))
+
+pub loop-q-init : goal.loop-q-init
+loop-q-init c =
+    let smaller = c.smaller-q.ensures in
+    (smaller.1, λ l. omega (arith, smaller.2 l), c.stretch_at-s.ensures, λ p low less. absurd (omega (arith, smaller.0)))
+
+pub returns-then-not-zeros : goal.returns-then-not-zeros
+returns-then-not-zeros c =
+    let l = (goal.at.returns-then-not-zeros c).In-loop-q in
+    record {
+      yes_when = λ h.
+          sym c.if-not-zeros.true
+          ∙ c.zeros.ensures.yes_when
+          (zero-stretch _ _ (start l).requires.0 _ _ (start l).requires.1 l.before.loop.invariant.2 (below l)
+          (λ p low. h p (omega (arith, l.before.loop.invariant.1 l.loop-test.true))));
+      yes_then = λ e. absurd (false≢true e);
+    }
+
+pub overflow_add-q : goal.overflow_add-q
+overflow_add-q c = omega (arith, ends (goal.at.overflow_add-q c).In-loop-q)
+
+pub next_row-s-requires : goal.next_row-s-requires
+next_row-s-requires c =
+    let l = (goal.at.next_row-s-requires c).In-loop-q in
+    ((start l).requires.0, omega (arith, inside l, (start l).requires.0.volume), l.before.loop.invariant.2.second)
+
+pub loop-q-smaller : goal.loop-q-smaller
+loop-q-smaller c = omega (arith, ends (goal.at.loop-q-smaller c).In-loop-q, c.loop-q.invariant.2.some)
+
+pub loop-q-preserved : goal.loop-q-preserved
+loop-q-preserved c =
+    let l = (goal.at.loop-q-preserved c).In-loop-q in
+    let inv = l.before.loop.invariant in (
+      ends l,
+      λ less. omega (arith, inv.1 l.loop-test.true),
+      c.next_row-s.ensures _ inv.2,
+      zero_more _ _ (start l).requires.0 _ _ _ inv.2 (c.zeros.ensures.yes_then c.if-not-zeros.false) inv.3,
+    )
+
+pub returns : goal.returns
+returns c =
+    let inv = c.loop-q.invariant in
+    record { yes_when = λ h. refl; yes_then = λ e p low less. inv.3 p low (omega (arith, c.requires.2)) }

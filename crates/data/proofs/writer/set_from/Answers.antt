@@ -1,0 +1,76 @@
+-- `data::writer::set_from` goes stretch by stretch: the bytes from `from` on before q are set, and byte q begins a stretch. Assumes nothing.
+use mathlib.Core.Path.{◌≡◌}
+use Prim.Native.Nat.{◌+◌, ◌*◌, ◌-◌, ◌≤◌, ◌<◌}
+use native.Mathlib.Omega.{arith}
+use borrow.Author.Rules.{rules}
+use Rattle.span.specs.Span.{SetTo}
+use Rattle.span.proofs.Setting.{set-none}
+use Rattle.shape.specs.Shapes.{cells, capacity}
+use Rattle.data.specs.Data.{held_data, ParityKept}
+use Rattle.data.specs.Inner.Place.{Standing}
+use Rattle.data.proofs.Placing.{standing-end, standing-inside}
+use Rattle.data.proofs.Writing.{parity-kept-none, parity-kept-trans, stretch-parity, set_more}
+use Rattle.data.proofs.writer.set_from.Goals as goal
+use Rattle.data.proofs.writer.set_from.Goals.{In-loop-q, Start}
+
+abbrev start : tie.In-loop invariant-loop decreases-loop → tie.Start invariant-loop decreases-loop
+start c = c.before.before.before.before.before
+
+-- byte q is one of the data string
+below : (c : tie.In-loop invariant-loop decreases-loop) → c.before.loop.q < capacity (start c).args.sh
+below c = omega (arith, (start c).requires.2)
+
+-- and its stretch lies inside
+ends : (c : tie.In-loop invariant-loop decreases-loop) → c.before.loop.q + c.before.loop.s.len ≤ (start c).args.end
+ends c = omega (arith, (start c).requires.2, standing-end _ _ _ (start c).requires.0 c.before.loop.invariant.2 (below c))
+
+inside : (c : tie.In-loop invariant-loop decreases-loop) → c.before.loop.s.at + c.before.loop.s.len ≤ (start c).args.sh.w * cells (start c).args.sh
+inside c = standing-inside _ _ _ (start c).requires.0 c.before.loop.invariant.2 (below c)
+
+pub stretch_at-s-requires : goal.stretch_at-s-requires
+stretch_at-s-requires c = (c.requires.0, omega (arith, c.smaller-q.ensures.1, c.requires.2))
+
+pub loop-q-init : goal.loop-q-init
+loop-q-init c =
+    let smaller = c.smaller-q.ensures in
+    let none : c.smaller-q.result - c.args.from ≡ 0 = omega (arith, smaller.0) in (
+      smaller.1,
+      λ l. omega (arith, smaller.2 l),
+      c.stretch_at-s.ensures,
+      rw none (set-none _ _ _),
+      parity-kept-none _ _,
+    )
+
+pub overflow_add-q : goal.overflow_add-q
+overflow_add-q c = omega (arith, ends (goal.at.overflow_add-q c).In-loop-q)
+
+pub next_row-s-requires : goal.next_row-s-requires
+next_row-s-requires c =
+    let l = (goal.at.next_row-s-requires c).In-loop-q in
+    ((start l).requires.0, omega (arith, inside l, (start l).requires.0.volume), l.before.loop.invariant.2.second)
+
+pub loop-q-smaller : goal.loop-q-smaller
+loop-q-smaller c = omega (arith, ends (goal.at.loop-q-smaller c).In-loop-q, c.loop-q.invariant.2.some)
+
+pub loop-q-preserved : goal.loop-q-preserved
+loop-q-preserved c =
+    let l = (goal.at.loop-q-preserved c).In-loop-q in
+    let v = (start l).requires.0 in
+    let inv = l.before.loop.invariant in
+    let low = inv.1 l.loop-test.true in
+    let set = (c.set.ensures.done (omega (arith, inside l, (start l).requires.1, inv.4.size))).1 in (
+      ends l,
+      λ less. omega arith,
+      c.next_row-s.ensures _ inv.2,
+      set_more _ v _ _ _ _ _ _ _ inv.2 low (omega (arith, ends l, (start l).requires.2)) inv.3 set,
+      parity-kept-trans inv.4 (stretch-parity _ v _ _ _ _ _ inv.2 (omega arith) set.kept (below l)),
+    )
+
+pub shape_of-cube : goal.shape_of-cube
+shape_of-cube c = c.loop-q.invariant.4.size
+
+pub returns : goal.returns
+returns c =
+    let s = (goal.at.returns c).Start in
+    let all : c.loop-q.q ≡ capacity s.args.sh = omega (arith, s.requires.2) in
+    (rw all at c.loop-q.invariant.3, c.loop-q.invariant.4)

@@ -1,0 +1,19 @@
+-- `erasures::look` counts the missing cells of a line up to the third, and finds the first and the last of them and the places read.
+use mathlib.Core.Path.{◌≡◌, ap, ◌∙◌}
+use mathlib.Core.Logic.{⊎_elim}
+use Prim.Native.Nat.{◌-◌, ◌≤◌, ◌<◌}
+use native.Mathlib.Omega.{arith}
+use borrow.Author.Tests.{eq-eqb, ne_eqb, ltb-true, ltb-false}
+use Rattle.shape.specs.Flags.{missing}
+use Rattle.erasures.specs.Scan.{places_read}
+use Rattle.erasures.specs.Erasures.{Scanned}
+use Rattle.erasures.proofs.Third.{read_none, read_more, read-ends}
+use Rattle.erasures.proofs.Scanning.{scanned-few, scanned-many, scanned-none, scanned-skip, scanned-first, scanned-next, scanned-three}
+use Rattle.erasures.proofs.look.Given as goal
+
+abbrev pub invariant-loop-i : goal.invariant-loop-i
+invariant-loop-i l =
+    (l.i ≤ l.len) × Scanned (missing l.flags) l.first l.stride l.i l.e.count l.e.first l.e.last × (l.i ≡ places_read (missing l.flags) l.first l.stride l.i)
+
+abbrev pub decreases-loop-i : goal.decreases-loop-i
+decreases-loop-i l = l.len - l.i

@@ -1,0 +1,9 @@
+-- `line::block::lines_from` gives neighbouring lines of a run.
+use mathlib.Core.Path.{refl}
+use Rattle.line.specs.Inner.Block.{part}
+use borrow.Author.Rules.{rules}
+use Rattle.line.proofs.block.lines_from.Goals as goal
+
+pub returns : goal.returns
+unfolding part
+returns c = refl

@@ -1,0 +1,20 @@
+-- `line::encoder::place_strip` copies the data places of 64 lines from the last to the first, and takes Horner's step by each.
+use mathlib.Core.Path.{◌≡◌, refl, ap, ◌∙◌}
+use Prim.Native.Nat.{ℕ, ◌+◌, ◌-◌, ◌*◌, ◌≤◌, ◌<◌}
+use native.Mathlib.Omega.{arith}
+use lib.ListN.{length, length-replicate}
+use Rattle.line.specs.Inner.Wide.{Tails}
+use Rattle.line.proofs.Encoding.{Between, between_none, between_more, between-all}
+use Rattle.line.proofs.Tails.{empty-replicate, tails-none, tails-at, tails-one, tails-whole, step-one}
+use Rattle.line.proofs.encoder.place_strip.Given as goal
+
+abbrev pub invariant-loop-left : goal.invariant-loop-left
+invariant-loop-left l =
+    (l.left ≤ l.from.len)
+    × Between l.left l.from.len l.from l.to l.data l.initial.s l.s
+    × (length l.s0 ≡ 64)
+    × (length l.s1 ≡ 64)
+    × Tails l.reduction l.from l.left l.data l.s0 l.s1
+
+abbrev pub decreases-loop-left : goal.decreases-loop-left
+decreases-loop-left l = l.left

@@ -1,0 +1,14 @@
+-- `line::strips::load` copies byte after byte into an array of zeros.
+use mathlib.Core.Path.{◌≡◌, refl}
+use Prim.Native.Nat.{◌≤◌, ◌-◌}
+use native.Mathlib.Omega.{arith}
+use lib.ListN.{length}
+use Rattle.span.specs.Span.{Copied}
+use Rattle.span.proofs.Copying.{copied_none, copied_more, copied-piece}
+use Rattle.line.proofs.strips.load.Given as goal
+
+abbrev pub invariant-loop-t : goal.invariant-loop-t
+invariant-loop-t l = (l.t ≤ 64) × (length l.initial.c ≡ 64) × Copied l.s l.at l.initial.c 0 l.t l.c
+
+abbrev pub decreases-loop-t : goal.decreases-loop-t
+decreases-loop-t l = 64 - l.t

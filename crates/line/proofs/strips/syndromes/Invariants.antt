@@ -1,0 +1,16 @@
+-- `line::strips::syndromes` gathers both syndromes of 64 lines.
+use Prim.Native.Nat.{ℕ, ◌+◌, ◌-◌, ◌*◌, ◌≤◌}
+use native.Mathlib.Omega.{arith}
+use mathlib.Core.Path.{◌≡◌, ap, ◌∙◌}
+use lib.ListN.{length, length-replicate}
+use Rattle.line.specs.Inner.Block.{Roomy}
+use Rattle.line.specs.Inner.Wide.{Tails}
+use Rattle.line.proofs.Tails.{empty-replicate, tails-none, tails-at, tails-one, tails-whole, step-one}
+use Rattle.line.proofs.strips.syndromes.Given as goal
+
+abbrev pub invariant-loop-left : goal.invariant-loop-left
+invariant-loop-left l =
+    (l.left ≤ l.run.len) × (length l.s0 ≡ 64) × (length l.s1 ≡ 64) × Tails l.reduction l.run l.left l.s l.s0 l.s1
+
+abbrev pub decreases-loop-left : goal.decreases-loop-left
+decreases-loop-left l = l.left

@@ -1,0 +1,24 @@
+-- `line::wide::all_zero` decides whether both lists begin with zeros: an or is 0 exactly when both sides are.
+use mathlib.Core.Path.{◌≡◌}
+use Prim.Native.Nat.{◌-◌, ◌≤◌}
+use native.Mathlib.Omega.{arith}
+use lib.ListN.{get_or}
+use Rattle.span.proofs.Decision.{decides_eq}
+use Rattle.span.proofs.Joining.{Joined, joined-none, joined-more, or-zero}
+use Rattle.line.proofs.wide.all_zero.Goals as goal
+
+pub loop-t-init : goal.loop-t-init
+loop-t-init c = (omega arith, joined-none _)
+
+pub loop-t-preserved : goal.loop-t-preserved
+loop-t-preserved c = (
+  omega arith,
+  joined-more _ _ _ _ c.loop-t.invariant.1 (or-zero _ _) (λ (h0, h1). rw (h0, h1)),
+)
+
+pub returns : goal.returns
+returns c =
+    let all : c.loop-t.t ≡ c.args.width = omega arith in
+    let joined = rw all at c.loop-t.invariant.1 in
+    decides_eq c.loop-t.any 0 (λ z. joined.zero (λ i l. (z.first i l, z.second i l)))
+    (λ e. record { first = λ t h. (joined.all e t h).0; second = λ t h. (joined.all e t h).1 })

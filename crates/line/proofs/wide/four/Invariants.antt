@@ -1,0 +1,30 @@
+-- `line::wide::four` takes four of Horner's steps for each line.
+use mathlib.Core.Path.{refl, ◌∙◌}
+use Prim.Native.Nat.{◌+◌, ◌-◌, ◌*◌, ◌≤◌}
+use native.Mathlib.Omega.{arith}
+use lib.ListN.{length, get_or}
+use native.Mathlib.Nat.{mul-add}
+use Rattle.field.specs.Field.{add, xtime}
+use Rattle.line.proofs.Tails.{horner0-at, horner1-at}
+use Rattle.strip.proofs.Updated.{Updated, updated_none, updated-more}
+use Rattle.line.proofs.wide.four.Given as goal
+
+abbrev pub invariant-loop-t : goal.invariant-loop-t
+invariant-loop-t l =
+    (l.t ≤ l.width)
+    × Updated
+    (λ p x. add (add (add (add x (get_or l.s (l.at3 + p) 0)) (get_or l.s (l.at2 + p) 0)) (get_or l.s (l.at1 + p) 0)) (get_or l.s (l.at + p) 0))
+    0 l.t l.initial.s0 l.s0
+    × Updated
+    (λ p x.
+    add
+    (xtime l.reduction
+    (add
+    (xtime l.reduction
+    (add (xtime l.reduction (add (xtime l.reduction x) (get_or l.s (l.at3 + p) 0))) (get_or l.s (l.at2 + p) 0)))
+    (get_or l.s (l.at1 + p) 0)))
+    (get_or l.s (l.at + p) 0))
+    0 l.t l.initial.s1 l.s1
+
+abbrev pub decreases-loop-t : goal.decreases-loop-t
+decreases-loop-t l = l.width - l.t

@@ -1,0 +1,18 @@
+-- `line::wide::one` takes one of Horner's steps for each line.
+use mathlib.Core.Path.{refl}
+use Prim.Native.Nat.{◌+◌, ◌-◌, ◌*◌, ◌≤◌}
+use native.Mathlib.Omega.{arith}
+use lib.ListN.{length, get_or}
+use Rattle.field.specs.Field.{add, xtime}
+use Rattle.line.specs.Run.{line_at}
+use Rattle.strip.proofs.Updated.{Updated, updated_none, updated-more}
+use Rattle.line.proofs.wide.one.Given as goal
+
+abbrev pub invariant-loop-t : goal.invariant-loop-t
+invariant-loop-t l =
+    (l.t ≤ l.width)
+    × Updated (λ p x. add x (get_or l.s (l.at + p) 0)) 0 l.t l.initial.s0 l.s0
+    × Updated (λ p x. add (xtime l.reduction x) (get_or l.s (l.at + p) 0)) 0 l.t l.initial.s1 l.s1
+
+abbrev pub decreases-loop-t : goal.decreases-loop-t
+decreases-loop-t l = l.width - l.t

@@ -1,0 +1,10 @@
+-- `line::wide::syndromes` gathers both syndromes of each line of a block.
+use Rattle.line.proofs.Tails.{tails-none, tails-whole}
+use borrow.Author.Rules.{rules}
+use Rattle.line.proofs.wide.syndromes.Goals as goal
+
+pub ones-requires : goal.ones-requires
+ones-requires c = (c.requires.0, tails-none _ _ _ _ _ c.requires.1 c.requires.2)
+
+pub returns : goal.returns
+returns c = tails-whole _ _ _ _ _ c.fours.ensures
