@@ -8,7 +8,6 @@ use Rattle.data.specs.Calls.{extract_done}
 use Rattle.data.proofs.Reading.{read_whole}
 use Rattle.data.proofs.Outcomes.{extract-unfit}
 use Rattle.data.proofs.extract.Goals as goal
-use Rattle.data.proofs.extract.Goals.{In-Done}
 
 pub returns-in_default : goal.returns-in_default
 returns-in_default c = extract-unfit _ _ _ _ _ c.slices_fit-answer.ensures c.in_default.is
@@ -21,6 +20,5 @@ copy_data-requires c =
 pub returns : goal.returns
 unfolding answer_value
 returns c =
-    let told = (goal.at.returns c).In-Done in
-    let checks = answer-passed _ _ told.before.before.slices-fit.ensures told.enum_told.given.1 in
+    let checks = answer-passed _ _ c.slices_fit-answer.ensures c.in-Done.is in
     extract_done checks (read_whole _ _ (checked-done _ _ _ checks).0 _ _ (checked-done _ _ _ checks).1 c.copy_data.ensures)

@@ -12,7 +12,7 @@ use Rattle.data.specs.Calls.{cube_checked, zero_value, zero_done}
 use Rattle.data.proofs.Checks.{cube-done-checked}
 use Rattle.data.proofs.Outcomes.{zero-unfit}
 use Rattle.data.proofs.is_data_zero.Goals as goal
-use Rattle.data.proofs.is_data_zero.Goals.{After-struct_known-1, Else-cube-z}
+use Rattle.data.proofs.is_data_zero.Goals.{After-struct_known-1}
 
 -- the shape has passed, and what was measured are its sizes
 fits : (c : After-struct_known-1) → let sh = c.args.sh in
@@ -41,6 +41,5 @@ returns-in-Refused c =
 pub returns-else-cube-z : goal.returns-else-cube-z
 unfolding zero_value sizes
 returns-else-cube-z c =
-    let e = (goal.at.returns-else-cube-z c).Else-cube-z in
-    let (v, same) = sized e.before in
-    zero_done _ (cube-done-checked _ _ v (e.if1.false ∙ ap (λ (z : Sizes). z.bytes) same)) c.zero_from.ensures
+    let (v, same) = sized (goal.at.returns-else-cube-z c).After-struct_known-1 in
+    zero_done _ (cube-done-checked _ _ v (c.if-cube-z.false ∙ ap (λ (z : Sizes). z.bytes) same)) c.zero_from.ensures

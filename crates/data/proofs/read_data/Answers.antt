@@ -6,7 +6,6 @@ use Rattle.data.specs.Calls.{read_done}
 use Rattle.data.proofs.Checks.{read-checked-done}
 use Rattle.data.proofs.Outcomes.{read-unfit}
 use Rattle.data.proofs.read_data.Goals as goal
-use Rattle.data.proofs.read_data.Goals.{In-Done}
 
 pub returns-in_default : goal.returns-in_default
 returns-in_default c = read-unfit _ _ _ _ _ _ _ _ c.spans_fit-answer.ensures c.in_default.is
@@ -18,5 +17,4 @@ copy_data-requires c =
 pub returns : goal.returns
 unfolding answer_value
 returns c =
-    let told = (goal.at.returns c).In-Done in
-    read_done (answer-passed _ _ told.before.before.spans_fit.ensures told.enum_told.given.1) c.copy_data.ensures
+    read_done (answer-passed _ _ c.spans_fit-answer.ensures c.in-Done.is) c.copy_data.ensures

@@ -12,7 +12,7 @@ use Rattle.data.specs.Calls.{cube_checked, set_done}
 use Rattle.data.proofs.Checks.{cube-done-checked}
 use Rattle.data.proofs.Outcomes.{set-unfit}
 use Rattle.data.proofs.set_data.Goals as goal
-use Rattle.data.proofs.set_data.Goals.{After-set_from, After-struct_known-1, Else-cube-z}
+use Rattle.data.proofs.set_data.Goals.{After-struct_known-1}
 
 -- the shape has passed, and what was measured are its sizes
 fits : (c : After-struct_known-1) → let sh = c.args.sh in
@@ -30,9 +30,8 @@ returns-then-cube-z c = set-unfit _ _ _ _ _ (rw (fits (goal.at.returns-then-cube
 pub set_from-requires : goal.set_from-requires
 unfolding sizes
 set_from-requires c =
-    let e = (goal.at.set_from-requires c).Else-cube-z in
-    let (v, same) = sized e.before in
-    (v, e.if1.false ∙ ap (λ (z : Sizes). z.bytes) same, ap (λ (z : Sizes). z.capacity) same)
+    let (v, same) = sized (goal.at.set_from-requires c).After-struct_known-1 in
+    (v, c.if-cube-z.false ∙ ap (λ (z : Sizes). z.bytes) same, ap (λ (z : Sizes). z.capacity) same)
 
 pub returns-in-Refused : goal.returns-in-Refused
 unfolding cube_checked
@@ -42,7 +41,5 @@ returns-in-Refused c =
 pub returns-else-cube-z : goal.returns-else-cube-z
 unfolding sizes answer_value
 returns-else-cube-z c =
-    let called = (goal.at.returns-else-cube-z c).After-set_from in
-    let e = called.before.before in
-    let (v, same) = sized e.before in
-    set_done (cube-done-checked _ _ v (e.if1.false ∙ ap (λ (z : Sizes). z.bytes) same)) called.set-from.ensures.0 called.set-from.ensures.1
+    let (v, same) = sized (goal.at.returns-else-cube-z c).After-struct_known-1 in
+    set_done (cube-done-checked _ _ v (c.if-cube-z.false ∙ ap (λ (z : Sizes). z.bytes) same)) c.set_from.ensures.0 c.set_from.ensures.1

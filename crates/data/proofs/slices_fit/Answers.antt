@@ -9,7 +9,6 @@ use Rattle.shape.specs.Shapes.{both}
 use Rattle.shape.proofs.Valid.{measure-fits, measure-refused}
 use Rattle.data.specs.Calls.{slices_checked}
 use Rattle.data.proofs.slices_fit.Goals as goal
-use Rattle.data.proofs.slices_fit.Goals.{In-Fits-2}
 
 pub returns-in-Refused : goal.returns-in-Refused
 unfolding slices_checked answer_value
@@ -18,9 +17,8 @@ returns-in-Refused c = then-refused _ _ _ (measure-refused _ _ _ c.measure.ensur
 pub returns-then-bytes-z : goal.returns-then-bytes-z
 unfolding slices_checked both answer_value and_then check checked
 returns-then-bytes-z c =
-    let measured = (goal.at.returns-then-bytes-z c).In-Fits-2 in
     rw (
-      measure-fits _ _ _ measured.before.before.measure.ensures measured.z.given.1,
+      measure-fits _ _ _ c.measure.ensures c.in-Fits.is,
       eq-eqb _ _ c.if-capacity-z.true,
       c.if-bytes-z.true,
     )
@@ -28,6 +26,5 @@ returns-then-bytes-z c =
 pub returns-else-capacity-z : goal.returns-else-capacity-z
 unfolding slices_checked both answer_value refusal fault_number and_then check checked
 returns-else-capacity-z c =
-    let measured = (goal.at.returns-else-capacity-z c).In-Fits-2 in
-    rw (measure-fits _ _ _ measured.before.before.measure.ensures measured.z.given.1)
+    rw (measure-fits _ _ _ c.measure.ensures c.in-Fits.is)
     (⊎_elim (λ w. rw (eq-eqb _ _ w.0.taken, w.2.left)) (λ w. rw (ne_eqb _ _ w.left)) c.else-capacity-z.branch)

@@ -9,7 +9,7 @@ use Rattle.shape.specs.Shapes.{shape_checked}
 use Rattle.shape.proofs.Valid.{measure-fits, measure-refused}
 use Rattle.data.specs.Calls.{read_checked}
 use Rattle.data.proofs.spans_fit.Goals as goal
-use Rattle.data.proofs.spans_fit.Goals.{After-struct_known-1, Else-bytes-z, Else-not-inside}
+use Rattle.data.proofs.spans_fit.Goals.{After-struct_known-1}
 
 -- the shape has passed
 fits : (c : After-struct_known-1) → shape_checked c.args.sh ≡ passes c.in-Fits.z
@@ -22,18 +22,15 @@ returns-then-bytes-z c = rw (fits (goal.at.returns-then-bytes-z c).After-struct_
 pub returns-then-not-inside : goal.returns-then-not-inside
 unfolding read_checked answer_value refusal fault_number and_then check checked
 returns-then-not-inside c =
-    let e = (goal.at.returns-then-not-inside c).Else-bytes-z in
-    rw (fits e.before, eq-eqb _ _ e.if1.false, sym c.inside.ensures ∙ c.if-not-inside.true)
+    rw (fits (goal.at.returns-then-not-inside c).After-struct_known-1, eq-eqb _ _ c.if-bytes-z.false, sym c.inside.ensures ∙ c.if-not-inside.true)
 
 pub returns-then-not-inside-2 : goal.returns-then-not-inside-2
 unfolding read_checked answer_value refusal fault_number and_then check checked
 returns-then-not-inside-2 c =
-    let d = (goal.at.returns-then-not-inside-2 c).Else-not-inside in
-    let e = d.before.before in
     rw (
-      fits e.before,
-      eq-eqb _ _ e.if1.false,
-      sym d.before.inside.ensures ∙ not-false _ d.if2.false,
+      fits (goal.at.returns-then-not-inside-2 c).After-struct_known-1,
+      eq-eqb _ _ c.if-bytes-z.false,
+      sym c.inside.ensures ∙ c.if-not-inside.false,
       sym c.inside-in-Fits.ensures ∙ c.if-not-inside-2.true,
     )
 
@@ -44,11 +41,9 @@ returns-in-Refused c = then-refused _ _ _ (measure-refused _ _ _ c.measure.ensur
 pub returns-else-not-inside-2 : goal.returns-else-not-inside-2
 unfolding read_checked answer_value and_then check checked
 returns-else-not-inside-2 c =
-    let d = (goal.at.returns-else-not-inside-2 c).Else-not-inside in
-    let e = d.before.before in
     rw (
-      fits e.before,
-      eq-eqb _ _ e.if1.false,
-      sym d.before.inside.ensures ∙ not-false _ d.if2.false,
+      fits (goal.at.returns-else-not-inside-2 c).After-struct_known-1,
+      eq-eqb _ _ c.if-bytes-z.false,
+      sym c.inside.ensures ∙ c.if-not-inside.false,
       sym c.inside-in-Fits.ensures ∙ c.if-not-inside-2.false,
     )

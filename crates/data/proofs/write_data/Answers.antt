@@ -6,7 +6,6 @@ use Rattle.data.specs.Calls.{write_done}
 use Rattle.data.proofs.Checks.{read-checked-done}
 use Rattle.data.proofs.Outcomes.{write-unfit}
 use Rattle.data.proofs.write_data.Goals as goal
-use Rattle.data.proofs.write_data.Goals.{In-Done}
 
 pub returns-in_default : goal.returns-in_default
 returns-in_default c = write-unfit _ _ _ _ _ _ _ _ c.spans_fit-answer.ensures c.in_default.is
@@ -18,6 +17,5 @@ put_data-requires c =
 pub returns : goal.returns
 unfolding answer_value
 returns c =
-    let told = (goal.at.returns c).In-Done in
-    write_done (answer-passed _ _ told.before.before.spans_fit.ensures told.enum_told.given.1) c.put_data.ensures.0
+    write_done (answer-passed _ _ c.spans_fit-answer.ensures c.in-Done.is) c.put_data.ensures.0
     c.put_data.ensures.1

@@ -13,12 +13,12 @@ use Rattle.erasures.proofs.look.Goals as goal
 use Rattle.erasures.proofs.look.Goals.{Joined-e-eq0, Then-e-lt3}
 
 -- the inner branch leaves the count
-counts : (c : tie.Joined3 invariant-loop decreases-loop) → c.if3.e.count ≡ c.before.before.before.before.before.before.before.loop.e.count
-counts c = ⊎_elim (λ w. rw w.1) (λ w. rw w.1) c.if3.branch
+counts : (c : Joined-e-eq0) → c.if-e-eq0.e.count ≡ c.loop-i.e.count
+counts c = ⊎_elim (λ w. rw w.1) (λ w. rw w.1) c.if-e-eq0.branch
 
-few : (c : tie.Then1 invariant-loop decreases-loop) → c.before.before.before.loop.e.count < 3
+few : (c : Then-e-lt3) → c.loop-i.e.count < 3
 few c =
-    let below = ltb-true c.before.before.before.loop.e.count _ c.if1.true in
+    let below = ltb-true c.loop-i.e.count _ c.if-e-lt3.true in
     omega arith
 
 pub loop-i-init : goal.loop-i-init

@@ -13,15 +13,12 @@ use Rattle.data.proofs.Reading.{read_more}
 use Rattle.data.proofs.reader.copy_data.Goals as goal
 use Rattle.data.proofs.reader.copy_data.Goals.{In-loop-done}
 
-abbrev start : tie.In-loop invariant-loop decreases-loop → tie.Start invariant-loop decreases-loop
-start c = c.before.before.before.before.before
-
 -- the next byte begins a stretch, which lies inside the cube
-standing : (c : tie.In-loop invariant-loop decreases-loop) → Standing (start c).args.sh ((start c).args.from + c.before.loop.done) c.before.loop.s
-standing c = c.before.loop.invariant.2 c.loop-test.true
+standing : (c : In-loop-done) → Standing c.args.sh (c.args.from + c.loop-done.done) c.loop-done.s
+standing c = c.loop-done.invariant.2 c.loop-done-test.true
 
-inside : (c : tie.In-loop invariant-loop decreases-loop) → c.before.loop.s.at + c.before.loop.s.len ≤ length (start c).args.cube.now
-inside c = omega (arith, standing-inside _ _ _ (start c).requires.0 (standing c) (omega (arith, (start c).requires.2)))
+inside : (c : In-loop-done) → c.loop-done.s.at + c.loop-done.s.len ≤ length c.args.cube.now
+inside c = omega (arith, standing-inside _ _ _ c.requires.0 (standing c) (omega (arith, c.requires.2)))
 
 pub stretch_at-s-requires : goal.stretch_at-s-requires
 stretch_at-s-requires c = (c.requires.0, omega (arith, c.requires.2))
@@ -37,27 +34,21 @@ overflow_add-done c = omega (arith, c.smaller-k.ensures.1)
 
 pub next_row-s-requires : goal.next_row-s-requires
 next_row-s-requires c =
-    let l = (goal.at.next_row-s-requires c).In-loop-done in
-    ((start l).requires.0, omega (arith, inside l, (start l).requires.1, (start l).requires.0.volume), (standing l).second)
+    (c.requires.0, omega (arith, inside (goal.at.next_row-s-requires c).In-loop-done, c.requires.1, c.requires.0.volume), (standing (goal.at.next_row-s-requires c).In-loop-done).second)
 
 pub loop-done-smaller : goal.loop-done-smaller
 loop-done-smaller c =
-    let l = (goal.at.loop-done-smaller c).In-loop-done in
     let smaller = c.smaller-k.ensures in
-    omega (arith, smaller.1, smaller-pos _ _ _ smaller.2 (standing l).some (omega arith))
+    omega (arith, smaller.1, smaller-pos _ _ _ smaller.2 (standing (goal.at.loop-done-smaller c).In-loop-done).some (omega arith))
 
 pub loop-done-preserved : goal.loop-done-preserved
 loop-done-preserved c =
-    let l = (goal.at.loop-done-preserved c).In-loop-done in
-    let a = (start l).args in
+    let a = c.args in
     let smaller = c.smaller-k.ensures in (
       omega (arith, smaller.1),
-      read_more _ _ (start l).requires.0 _ _ _ _ _ _ _ _ (standing l) smaller.0 (omega (arith, (start l).requires.2, smaller.1)) l.before.loop.invariant.1 (c.copy.ensures.done (omega (arith, inside l, smaller.0), omega (arith, smaller.1, (start l).requires.3, l.before.loop.invariant.1.kept.size))).1,
-      λ less. let all = smaller.2 (omega arith) in standing-same _ _ _ _ (omega arith) (c.next_row-s.ensures _ (standing l)),
+      read_more _ _ c.requires.0 _ _ _ _ _ _ _ _ (standing (goal.at.loop-done-preserved c).In-loop-done) smaller.0 (omega (arith, c.requires.2, smaller.1)) c.loop-done.invariant.1 (c.copy.ensures.done (omega (arith, inside (goal.at.loop-done-preserved c).In-loop-done, smaller.0), omega (arith, smaller.1, c.requires.3, c.loop-done.invariant.1.kept.size))).1,
+      λ less. let all = smaller.2 (omega arith) in standing-same _ _ _ _ (omega arith) (c.next_row-s.ensures _ (standing (goal.at.loop-done-preserved c).In-loop-done)),
     )
-
-pub shape_of-out : goal.shape_of-out
-shape_of-out c = c.loop-done.invariant.1.kept.size
 
 pub returns : goal.returns
 returns c =

@@ -13,19 +13,16 @@ use Rattle.data.proofs.Reading.{zero_more, zero-stretch}
 use Rattle.data.proofs.reader.zero_from.Goals as goal
 use Rattle.data.proofs.reader.zero_from.Goals.{In-loop-q}
 
-abbrev start : tie.In-loop invariant-loop decreases-loop → tie.Start invariant-loop decreases-loop
-start c = c.before.before.before.before.before
-
 -- byte q is one of the data string
-below : (c : tie.In-loop invariant-loop decreases-loop) → c.before.loop.q < capacity (start c).args.sh
-below c = omega (arith, (start c).requires.2)
+below : (c : In-loop-q) → c.loop-q.q < capacity c.args.sh
+below c = omega (arith, c.requires.2)
 
 -- and its stretch lies inside
-ends : (c : tie.In-loop invariant-loop decreases-loop) → c.before.loop.q + c.before.loop.s.len ≤ (start c).args.end
-ends c = omega (arith, (start c).requires.2, standing-end _ _ _ (start c).requires.0 c.before.loop.invariant.2 (below c))
+ends : (c : In-loop-q) → c.loop-q.q + c.loop-q.s.len ≤ c.args.end
+ends c = omega (arith, c.requires.2, standing-end _ _ _ c.requires.0 c.loop-q.invariant.2 (below c))
 
-inside : (c : tie.In-loop invariant-loop decreases-loop) → c.before.loop.s.at + c.before.loop.s.len ≤ (start c).args.sh.w * cells (start c).args.sh
-inside c = standing-inside _ _ _ (start c).requires.0 c.before.loop.invariant.2 (below c)
+inside : (c : In-loop-q) → c.loop-q.s.at + c.loop-q.s.len ≤ c.args.sh.w * cells c.args.sh
+inside c = standing-inside _ _ _ c.requires.0 c.loop-q.invariant.2 (below c)
 
 pub stretch_at-s-requires : goal.stretch_at-s-requires
 stretch_at-s-requires c = (c.requires.0, omega (arith, c.smaller-q.ensures.1, c.requires.2))
@@ -37,13 +34,12 @@ loop-q-init c =
 
 pub returns-then-not-zeros : goal.returns-then-not-zeros
 returns-then-not-zeros c =
-    let l = (goal.at.returns-then-not-zeros c).In-loop-q in
     record {
       yes_when = λ h.
           sym c.if-not-zeros.true
           ∙ c.zeros.ensures.yes_when
-          (zero-stretch _ _ (start l).requires.0 _ _ (start l).requires.1 l.before.loop.invariant.2 (below l)
-          (λ p low. h p (omega (arith, l.before.loop.invariant.1 l.loop-test.true))));
+          (zero-stretch _ _ c.requires.0 _ _ c.requires.1 c.loop-q.invariant.2 (below (goal.at.returns-then-not-zeros c).In-loop-q)
+          (λ p low. h p (omega (arith, c.loop-q.invariant.1 c.loop-q-test.true))));
       yes_then = λ e. absurd (false≢true e);
     }
 
@@ -52,20 +48,18 @@ overflow_add-q c = omega (arith, ends (goal.at.overflow_add-q c).In-loop-q)
 
 pub next_row-s-requires : goal.next_row-s-requires
 next_row-s-requires c =
-    let l = (goal.at.next_row-s-requires c).In-loop-q in
-    ((start l).requires.0, omega (arith, inside l, (start l).requires.0.volume), l.before.loop.invariant.2.second)
+    (c.requires.0, omega (arith, inside (goal.at.next_row-s-requires c).In-loop-q, c.requires.0.volume), c.loop-q.invariant.2.second)
 
 pub loop-q-smaller : goal.loop-q-smaller
 loop-q-smaller c = omega (arith, ends (goal.at.loop-q-smaller c).In-loop-q, c.loop-q.invariant.2.some)
 
 pub loop-q-preserved : goal.loop-q-preserved
 loop-q-preserved c =
-    let l = (goal.at.loop-q-preserved c).In-loop-q in
-    let inv = l.before.loop.invariant in (
-      ends l,
-      λ less. omega (arith, inv.1 l.loop-test.true),
+    let inv = c.loop-q.invariant in (
+      ends (goal.at.loop-q-preserved c).In-loop-q,
+      λ less. omega (arith, inv.1 c.loop-q-test.true),
       c.next_row-s.ensures _ inv.2,
-      zero_more _ _ (start l).requires.0 _ _ _ inv.2 (c.zeros.ensures.yes_then c.if-not-zeros.false) inv.3,
+      zero_more _ _ c.requires.0 _ _ _ inv.2 (c.zeros.ensures.yes_then c.if-not-zeros.false) inv.3,
     )
 
 pub returns : goal.returns

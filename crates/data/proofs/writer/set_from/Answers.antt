@@ -11,21 +11,18 @@ use Rattle.data.specs.Inner.Place.{Standing}
 use Rattle.data.proofs.Placing.{standing-end, standing-inside}
 use Rattle.data.proofs.Writing.{parity-kept-none, parity-kept-trans, stretch-parity, set_more}
 use Rattle.data.proofs.writer.set_from.Goals as goal
-use Rattle.data.proofs.writer.set_from.Goals.{In-loop-q, Start}
-
-abbrev start : tie.In-loop invariant-loop decreases-loop → tie.Start invariant-loop decreases-loop
-start c = c.before.before.before.before.before
+use Rattle.data.proofs.writer.set_from.Goals.{In-loop-q}
 
 -- byte q is one of the data string
-below : (c : tie.In-loop invariant-loop decreases-loop) → c.before.loop.q < capacity (start c).args.sh
-below c = omega (arith, (start c).requires.2)
+below : (c : In-loop-q) → c.loop-q.q < capacity c.args.sh
+below c = omega (arith, c.requires.2)
 
 -- and its stretch lies inside
-ends : (c : tie.In-loop invariant-loop decreases-loop) → c.before.loop.q + c.before.loop.s.len ≤ (start c).args.end
-ends c = omega (arith, (start c).requires.2, standing-end _ _ _ (start c).requires.0 c.before.loop.invariant.2 (below c))
+ends : (c : In-loop-q) → c.loop-q.q + c.loop-q.s.len ≤ c.args.end
+ends c = omega (arith, c.requires.2, standing-end _ _ _ c.requires.0 c.loop-q.invariant.2 (below c))
 
-inside : (c : tie.In-loop invariant-loop decreases-loop) → c.before.loop.s.at + c.before.loop.s.len ≤ (start c).args.sh.w * cells (start c).args.sh
-inside c = standing-inside _ _ _ (start c).requires.0 c.before.loop.invariant.2 (below c)
+inside : (c : In-loop-q) → c.loop-q.s.at + c.loop-q.s.len ≤ c.args.sh.w * cells c.args.sh
+inside c = standing-inside _ _ _ c.requires.0 c.loop-q.invariant.2 (below c)
 
 pub stretch_at-s-requires : goal.stretch_at-s-requires
 stretch_at-s-requires c = (c.requires.0, omega (arith, c.smaller-q.ensures.1, c.requires.2))
@@ -46,31 +43,25 @@ overflow_add-q c = omega (arith, ends (goal.at.overflow_add-q c).In-loop-q)
 
 pub next_row-s-requires : goal.next_row-s-requires
 next_row-s-requires c =
-    let l = (goal.at.next_row-s-requires c).In-loop-q in
-    ((start l).requires.0, omega (arith, inside l, (start l).requires.0.volume), l.before.loop.invariant.2.second)
+    (c.requires.0, omega (arith, inside (goal.at.next_row-s-requires c).In-loop-q, c.requires.0.volume), c.loop-q.invariant.2.second)
 
 pub loop-q-smaller : goal.loop-q-smaller
 loop-q-smaller c = omega (arith, ends (goal.at.loop-q-smaller c).In-loop-q, c.loop-q.invariant.2.some)
 
 pub loop-q-preserved : goal.loop-q-preserved
 loop-q-preserved c =
-    let l = (goal.at.loop-q-preserved c).In-loop-q in
-    let v = (start l).requires.0 in
-    let inv = l.before.loop.invariant in
-    let low = inv.1 l.loop-test.true in
-    let set = (c.set.ensures.done (omega (arith, inside l, (start l).requires.1, inv.4.size))).1 in (
-      ends l,
+    let v = c.requires.0 in
+    let inv = c.loop-q.invariant in
+    let low = inv.1 c.loop-q-test.true in
+    let set = (c.set.ensures.done (omega (arith, inside (goal.at.loop-q-preserved c).In-loop-q, c.requires.1, inv.4.size))).1 in (
+      ends (goal.at.loop-q-preserved c).In-loop-q,
       λ less. omega arith,
       c.next_row-s.ensures _ inv.2,
-      set_more _ v _ _ _ _ _ _ _ inv.2 low (omega (arith, ends l, (start l).requires.2)) inv.3 set,
-      parity-kept-trans inv.4 (stretch-parity _ v _ _ _ _ _ inv.2 (omega arith) set.kept (below l)),
+      set_more _ v _ _ _ _ _ _ _ inv.2 low (omega (arith, ends (goal.at.loop-q-preserved c).In-loop-q, c.requires.2)) inv.3 set,
+      parity-kept-trans inv.4 (stretch-parity _ v _ _ _ _ _ inv.2 (omega arith) set.kept (below (goal.at.loop-q-preserved c).In-loop-q)),
     )
-
-pub shape_of-cube : goal.shape_of-cube
-shape_of-cube c = c.loop-q.invariant.4.size
 
 pub returns : goal.returns
 returns c =
-    let s = (goal.at.returns c).Start in
-    let all : c.loop-q.q ≡ capacity s.args.sh = omega (arith, s.requires.2) in
+    let all : c.loop-q.q ≡ capacity c.args.sh = omega (arith, c.requires.2) in
     (rw all at c.loop-q.invariant.3, c.loop-q.invariant.4)
