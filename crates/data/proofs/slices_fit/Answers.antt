@@ -20,11 +20,11 @@ returns-then-bytes-z c =
     rw (
       measure-fits _ _ _ c.measure.ensures c.in-Fits.is,
       eq-eqb _ _ c.if-capacity-z.true,
-      c.if-bytes-z.true,
+      eq-eqb _ _ c.if-bytes-z.true,
     )
 
 pub returns-else-capacity-z : goal.returns-else-capacity-z
 unfolding slices_checked both answer_value refusal fault_number and_then check checked
 returns-else-capacity-z c =
     rw (measure-fits _ _ _ c.measure.ensures c.in-Fits.is)
-    (⊎_elim (λ w. rw (eq-eqb _ _ w.0.taken, w.2.left)) (λ w. rw (ne_eqb _ _ w.left)) c.else-capacity-z.branch)
+    (⊎_elim (λ w. rw (eq-eqb _ _ w.0, ne_eqb _ _ w.1)) (λ w. rw (ne_eqb _ _ w)) c.else-capacity-z.either)
