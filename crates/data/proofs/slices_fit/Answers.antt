@@ -27,4 +27,4 @@ pub returns-else-capacity-z : goal.returns-else-capacity-z
 unfolding slices_checked both answer_value refusal fault_number and_then check checked
 returns-else-capacity-z c =
     rw (measure-fits _ _ _ c.measure.ensures c.in-Fits.is)
-    (⊎_elim (λ w. rw (eq-eqb _ _ w.0, ne_eqb _ _ w.1)) (λ w. rw (ne_eqb _ _ w)) c.else-capacity-z.either)
+    (⊎_elim (λ w. rw (eq-eqb _ _ w.0, ne_eqb c.args.bytes c.in-Fits.z.bytes w.1)) (λ w. rw (ne_eqb c.args.capacity c.in-Fits.z.capacity w)) c.else-capacity-z.either)

@@ -1,0 +1,13 @@
+-- `rows::by_strips` decides whether the lines of all rows are codewords, 64 rows at a time.
+use Prim.Native.Nat.{◌+◌, ◌-◌, ◌≤◌}
+use native.Mathlib.Omega.{arith}
+use Rattle.span.proofs.Decision.{decides-no, decides-map, decides-false, decides-true}
+use Rattle.rows.specs.Inner.{RowsRight}
+use Rattle.rows.proofs.Moving.{gaps-below, inside-strip, row-begins, rows-strip, rows_more}
+use Rattle.rows.proofs.by_strips.Given as goal
+
+abbrev pub invariant-loop-from : goal.invariant-loop-from
+invariant-loop-from l = (l.from ≤ l.last + 63) × RowsRight l.reduction l.run l.gap 0 l.from l.s
+
+abbrev pub decreases-loop-from : goal.decreases-loop-from
+decreases-loop-from l = l.last + 64 - l.from

@@ -1,0 +1,15 @@
+-- `rows::gather` copies byte after byte into an array of zeros.
+use mathlib.Core.Path.{◌≡◌, refl, ◌∙◌}
+use Prim.Native.Nat.{◌+◌, ◌-◌, ◌*◌, ◌≤◌, ◌<◌}
+use native.Mathlib.Omega.{arith}
+use lib.ListN.{length, get_or}
+use Rattle.strip.proofs.Updated.{Updated, updated_none, updated-more}
+use Rattle.rows.proofs.Moving.{gaps-below}
+use Rattle.rows.proofs.gather.Given as goal
+
+abbrev pub invariant-loop-t : goal.invariant-loop-t
+invariant-loop-t l =
+    (l.t ≤ 64) × (length l.initial.c ≡ 64) × Updated (λ p x. get_or l.s (l.at + l.gap * p) 0) 0 l.t l.initial.c l.c
+
+abbrev pub decreases-loop-t : goal.decreases-loop-t
+decreases-loop-t l = 64 - l.t

@@ -1,0 +1,15 @@
+-- `rows::strip_of_rows` decides whether the lines of 64 rows are codewords, byte after byte of their width.
+use Prim.Native.Nat.{ℕ, ◌-◌, ◌≤◌, ◌<◌}
+use native.Mathlib.Omega.{arith}
+use borrow.Author.Count.{below_more}
+use Rattle.span.proofs.Decision.{decides-yes, decides-no, decides-false, decides-true}
+use Rattle.rows.specs.Rows.{behind}
+use Rattle.rows.specs.Inner.{LanesRight}
+use Rattle.rows.proofs.Moving.{within-lanes, row-begins, lanes-rows, rows-lanes}
+use Rattle.rows.proofs.strip_of_rows.Given as goal
+
+abbrev pub invariant-loop-byte : goal.invariant-loop-byte
+invariant-loop-byte l = (l.byte ≤ l.run.width) × ((k : ℕ) → k < l.byte → LanesRight l.reduction (behind l.run k) l.gap l.s)
+
+abbrev pub decreases-loop-byte : goal.decreases-loop-byte
+decreases-loop-byte l = l.run.width - l.byte
