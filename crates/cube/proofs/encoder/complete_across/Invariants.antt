@@ -1,0 +1,20 @@
+-- `complete_across` goes row by row: the lines of axis 3 through those below b are codewords, and every row of a data plane keeps its data cells.
+use mathlib.Core.Path.{◌≡◌, refl}
+use Prim.Native.Nat.{◌*◌, ◌-◌, ◌≤◌}
+use native.Mathlib.Omega.{arith}
+use lib.ListN.{length}
+use Rattle.span.proofs.Stretches.{stretch-end}
+use Rattle.shape.specs.Shapes.{cells}
+use Rattle.cube.specs.Inner.Encoder.{plane_bytes, AcrossCompleted}
+use Rattle.shape.proofs.Bounds.{Small, small}
+use Rattle.cube.proofs.Bytes.{rows-in-plane}
+use Rattle.cube.proofs.Completing.{across_run, outcome-solved}
+use Rattle.cube.proofs.Encoding.{rows_to, rows-to-inside, across-completed-none, across-completed-more}
+use Rattle.cube.proofs.encoder.complete_across.Given as goal
+
+abbrev pub invariant-loop-b : goal.invariant-loop-b
+invariant-loop-b l =
+    (l.b ≤ l.rows) × (length l.cube ≡ length l.initial.cube) × AcrossCompleted l.reduction (record { l1 = l.l1; l2 = l.l2; l3 = l.l3; w = l.w }) l.b l.initial.cube l.cube
+
+abbrev pub decreases-loop-b : goal.decreases-loop-b
+decreases-loop-b l = l.rows - l.b

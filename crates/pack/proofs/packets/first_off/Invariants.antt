@@ -1,0 +1,15 @@
+-- `pack::packets::first_off` meets its contract: the packets before i name cells of the cube. Assumes nothing.
+use mathlib.Core.Path.{◌≡◌}
+use Prim.Native.Nat.{ℕ, ◌-◌, ◌≤◌, ◌<◌}
+use native.Mathlib.Omega.{arith}
+use borrow.Author.Count.{below_more}
+use Rattle.pack.specs.Packets.{OnCube}
+use Rattle.pack.proofs.Naming.{packet-off, packet-names}
+use borrow.Author.Rules.{rules}
+use Rattle.pack.proofs.packets.first_off.Given as goal
+
+abbrev pub invariant-loop-i : goal.invariant-loop-i
+invariant-loop-i l = (l.i ≤ l.count) × ((j : ℕ) → j < l.i → OnCube l.pack l.h l.s j)
+
+abbrev pub decreases-loop-i : goal.decreases-loop-i
+decreases-loop-i l = l.count - l.i
