@@ -26,6 +26,7 @@ ten-le-pow (suc k) = let h = ten-le-pow k in omega (arith, pow-suc 10 (suc k))
 -- a number that has its digits in so many places and no fewer
 digits-decimal_in : (most k n : ℕ) → k < most → n < 10 ^ suc k → (1 < suc k → 10 ^ k ≤ n) → last_digits 10 (suc k) n ≡ decimal_in most n
 unfolding decimal_in
+digits-decimal_in zero k n h small large = elim h [ ]
 digits-decimal_in (suc most) zero n h small large = rw (mod-eq_of_lt small, lt-ltb n 10 small)
 digits-decimal_in (suc most) (suc k) n h small large =
     let high : 10 ^ suc k ≤ n = large (omega arith) in
