@@ -15,7 +15,7 @@ counts : (c : Joined-e-eq0) → c.if-e-eq0.e.count ≡ c.loop-i.e.count
 counts c = elim c.if-e-eq0.branch [ then-e-eq0 w ↦ rw w.e-is | else-e-eq0 w ↦ rw w.e-is ]
 
 few : (c : Then-e-lt3) → c.loop-i.e.count < 3
-few c = c.if-e-lt3.true
+few c = omega arith
 
 pub loop-i-init : goal.loop-i-init
 loop-i-init c = (omega arith, scanned-none _ _ _, read_none _ _ _)
