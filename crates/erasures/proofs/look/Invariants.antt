@@ -1,14 +1,9 @@
 -- `erasures::look` counts the missing cells of a line up to the third, and finds the first and the last of them and the places read.
-use mathlib.Core.Path.{◌≡◌, ap, ◌∙◌}
-use mathlib.Core.Logic.{⊎_elim}
-use Prim.Native.Nat.{◌-◌, ◌≤◌, ◌<◌}
-use native.Mathlib.Omega.{arith}
-use borrow.Author.Tests.{eq-eqb, ne_eqb, ltb-true, ltb-false}
+use mathlib.Core.Path.{◌≡◌}
+use Prim.Native.Nat.{◌-◌, ◌≤◌}
 use Rattle.shape.specs.Flags.{missing}
 use Rattle.erasures.specs.Scan.{places_read}
 use Rattle.erasures.specs.Erasures.{Scanned}
-use Rattle.erasures.proofs.Third.{read_none, read_more, read-ends}
-use Rattle.erasures.proofs.Scanning.{scanned-few, scanned-many, scanned-none, scanned-skip, scanned-first, scanned-next, scanned-three}
 use Rattle.erasures.proofs.look.Given as goal
 
 abbrev pub invariant-loop-i : goal.invariant-loop-i

@@ -1,6 +1,5 @@
 -- `erasures::scan_line` looks at a line whose places all have a flag.
 use mathlib.Core.Path.{refl}
-use borrow.Author.Rules.{rules}
 use Rattle.span.proofs.Decision.{decides-false, decides-true, cases_done, cases-refused}
 use Rattle.erasures.proofs.scan_line.Goals as goal
 
@@ -11,4 +10,4 @@ pub look-requires : goal.look-requires
 look-requires c = decides-true c.has_flags.ensures c.if-not-has_flags.false
 
 pub returns : goal.returns
-returns c = cases_done (decides-true c.has_flags.ensures c.if-not-has_flags.false) (c.look.ensures.0, c.look.ensures.1)
+returns c = cases_done (decides-true c.has_flags.ensures c.if-not-has_flags.false) (c.look.ensures.scanned, c.look.ensures.read_value)
