@@ -1,0 +1,36 @@
+-- `pack_writer::air::start_air` meets its contract. Assumes nothing.
+use mathlib.Core.Path.{refl}
+use lib.ListN.{length}
+use native.Mathlib.Omega.{arith}
+use Rattle.answer.specs.Refusals.{fault_number}
+use Rattle.answer.specs.Values.{refusal}
+use Rattle.pack.specs.Packs.{section_one, head, air_head, air_size}
+use Rattle.pack.specs.Reading.{header_with, header_for}
+use Rattle.pack_writer.specs.Writing.{start_value, start_refused, started}
+use Rattle.pack_writer.proofs.Starting.{air-size-passed, air-size-given, air-size-refused, start-unfit, start-short, start_fits}
+use borrow.Author.Rules.{rules}
+use Rattle.pack_writer.proofs.air.air_bytes.Reads as air-bytes-reads
+use Rattle.pack_writer.proofs.air.put_head.Reads as put-head-reads
+use Rattle.pack_writer.proofs.air.start_air.Goals as goal
+
+pub returns-then-out-n : goal.returns-then-out-n
+unfolding start_value refusal fault_number
+returns-then-out-n c =
+    let passed = air-size-given _ _ _ c.air_bytes.ensures _ c.in-Bytes.is in
+    start_refused 4 (start-short _ _ (length c.args.out.now) _ passed (λ e. omega (arith, c.if-out-n.true))) refl
+
+pub put_head-requires : goal.put_head-requires
+unfolding air_size header_for header_with
+put_head-requires c =
+    let passed = air-size-given _ _ _ c.air_bytes.ensures _ c.in-Bytes.is in
+    let (v, _, size) = air-size-passed _ _ _ passed in
+    (v, omega (arith, size, c.if-out-n.false), λ nine. absurd (omega arith))
+
+pub returns-in-Refused : goal.returns-in-Refused
+returns-in-Refused c = start-unfit _ _ _ _ (air-size-refused _ _ _ c.air_bytes.ensures _ c.in-Refused.is)
+
+pub returns-else-out-n : goal.returns-else-out-n
+unfolding start_value air_head head section_one header_for header_with
+returns-else-out-n c =
+    let passed = air-size-given _ _ _ c.air_bytes.ensures _ c.in-Bytes.is in
+    started _ (start_fits _ _ (length c.args.out.now) _ passed (omega (arith, c.if-out-n.false))) c.put_head.ensures

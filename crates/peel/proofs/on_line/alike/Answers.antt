@@ -1,0 +1,29 @@
+-- `peel::on_line::alike` counts neighbouring lines that miss the same places.
+use Prim.Native.Nat.{◌-◌, ◌≤◌}
+use native.Mathlib.Omega.{arith}
+use borrow.Author.Rules.{rules}
+use borrow.Author.Tests.{eqb-true, not-false}
+use Rattle.shape.specs.Flags.{missing}
+use Rattle.peel.specs.Inner.OnLine.{Alike}
+use Rattle.peel.proofs.Lines.{alike-one, alike-more}
+use Rattle.peel.proofs.on_line.alike.Goals as goal
+
+pub loop-n-init : goal.loop-n-init
+loop-n-init c = (omega arith, c.requires.0.0, alike-one c.requires.0.1 c.requires.0.2 c.requires.1.1)
+
+pub overflow_add-next : goal.overflow_add-next
+overflow_add-next c =
+    omega (arith, (c.requires.1.0 c.loop-n.n (omega arith)).within 0 (omega (arith, c.requires.1.1.bound c.requires.0.1)))
+
+pub returns-then-s-e : goal.returns-then-s-e
+returns-then-s-e c = c.loop-n.invariant
+
+pub loop-n-preserved : goal.loop-n-preserved
+loop-n-preserved c = (
+  omega arith,
+  omega arith,
+  alike-more c.loop-n.invariant.2 (c.scan_line-s.ensures.done (c.requires.1.0 c.loop-n.n (omega arith))).0 c.if-s-e.false (eqb-true _ _ c.if-s-e-2.false) (eqb-true _ _ c.if-s-e-3.false),
+)
+
+pub returns : goal.returns
+returns c = c.loop-n.invariant

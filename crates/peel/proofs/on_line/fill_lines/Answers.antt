@@ -1,0 +1,79 @@
+-- `peel::on_line::fill_lines` fills a line that misses one or two cells with its neighbours that miss the same; a line with none or more is
+-- left.
+use mathlib.Core.Logic.{inl, inr, ⊎_elim}
+use Prim.Native.Nat.{◌*◌, ◌≤◌}
+use native.Mathlib.Omega.{arith}
+use borrow.Author.Rules.{rules}
+use borrow.Author.Tests.{ltb-true, ltb-false}
+use Rattle.shape.specs.Flags.{missing}
+use Rattle.erasures.specs.Erasures.{Scanned}
+use Rattle.erasures.proofs.Inside.{line-places}
+use Rattle.field.specs.Field.{reduction}
+use Rattle.field.proofs.Primitive.{primitive}
+use Rattle.erasures.proofs.Scanning.{scanned-order}
+use Rattle.peel.specs.Inner.Sweep.{Filled}
+use Rattle.peel.specs.Inner.OnLine.{Neighbours, AllStop}
+use Rattle.peel.proofs.Lines.{neighbours-first, neighbours-fewer}
+use Rattle.peel.proofs.Reaching.{filled-le}
+use Rattle.peel.proofs.Together.{lines-filled, lines-stop}
+use Rattle.peel.proofs.Visiting.{lines-recovered, line-left}
+use Rattle.peel.proofs.on_line.fill_lines.Goals as goal
+use Rattle.peel.proofs.on_line.fill_lines.Goals.{After-alike-n, After-flag_holes, After-scan_line-e, After-slice_known-2-1, Else-count-eq0, Else-count-gt2}
+
+scanned : (c : After-scan_line-e) → Scanned (missing c.args.flags.now) c.args.line.first c.args.line.stride c.args.line.len c.scan_line-e.result.count c.scan_line-e.result.first c.scan_line-e.result.last
+scanned c =
+    let pre = c.requires in
+    (c.scan_line-e.ensures.done (line-places _ _ _ _ _ pre.0.valid pre.0.flags (neighbours-first pre.1.0))).0
+
+some : (c : Else-count-gt2) → 1 ≤ c.scan_line-e.result.count
+some c = omega (arith, c.if-count-eq0.false)
+
+few : (c : Else-count-gt2) → c.scan_line-e.result.count ≤ 2
+few c = c.if-count-gt2.false
+
+beside : (c : After-alike-n) → Neighbours c.args.sh c.args.line.first c.args.line.stride c.args.line.len c.alike-n.result
+beside c = neighbours-fewer c.requires.1.0 c.alike-n.ensures.0 c.alike-n.ensures.1
+
+filled :
+    (c : After-flag_holes) →
+    Filled reduction c.args.sh (AllStop c.args.line.first c.args.line.stride c.args.line.len c.alike-n.result)
+    c.args.cube.now c.args.flags.now c.recover.new.cube c.flag_holes.new.flags (c.scan_line-e.result.count * c.alike-n.result)
+filled c =
+    lines-filled _ _ _ _ _ _ c.requires.0 _ _ _ _ _ _ _ (beside c.before.before.before.before.before.before.before) c.alike-n.ensures.2 c.flag_holes.ensures _ primitive _
+    (λ p. omega (arith, c.before.before.before.before.before.before.before.before.before.before.before.before.before.before.slice-known.given p)) c.recover.ensures
+
+pub returns-then-count-eq0 : goal.returns-then-count-eq0
+returns-then-count-eq0 c = (
+  (omega arith, c.requires.1.0.some),
+  line-left _ _ _ _ _ _
+      (⊎_elim (λ w. inl (omega (arith, (scanned (goal.at.returns-then-count-eq0 c).After-scan_line-e).number, w.taken)))
+      (λ w. inr (omega (arith, (scanned (goal.at.returns-then-count-eq0 c).After-scan_line-e).number, ltb-true 2 c.scan_line-e.result.count w.1.taken))) c.then-count-eq0.branch),
+)
+
+pub alike-n-requires : goal.alike-n-requires
+alike-n-requires c = (
+  (c.requires.1.0.some, some (goal.at.alike-n-requires c).Else-count-eq0, few (goal.at.alike-n-requires c).Else-count-eq0),
+  (λ q h. line-places _ _ _ _ _ c.requires.0.valid c.requires.0.flags (c.requires.1.0.each q h), scanned (goal.at.alike-n-requires c).After-slice_known-2-1),
+)
+
+pub recover-requires : goal.recover-requires
+recover-requires c = (
+  (c.requires.0.valid, c.requires.0.bytes),
+  (beside (goal.at.recover-requires c).After-alike-n, (scanned-order _ _ _ _ _ _ _ (scanned (goal.at.recover-requires c).After-slice_known-2-1) (some (goal.at.recover-requires c).Else-count-eq0), (scanned (goal.at.recover-requires c).After-slice_known-2-1).bound (some (goal.at.recover-requires c).Else-count-eq0))),
+)
+
+pub flag_holes-requires : goal.flag_holes-requires
+flag_holes-requires c = (
+  (c.requires.0.valid, c.requires.0.flags, c.requires.1.1),
+  (beside (goal.at.flag_holes-requires c).After-alike-n, (scanned-order _ _ _ _ _ _ _ (scanned (goal.at.flag_holes-requires c).After-slice_known-2-1) (some (goal.at.flag_holes-requires c).Else-count-eq0), (scanned (goal.at.flag_holes-requires c).After-slice_known-2-1).bound (some (goal.at.flag_holes-requires c).Else-count-eq0))),
+)
+
+pub overflow_mul-result : goal.overflow_mul-result
+overflow_mul-result c = omega (arith, filled-le (filled (goal.at.overflow_mul-result c).After-flag_holes), c.requires.0.flags)
+
+pub returns : goal.returns
+returns c = (
+  (c.alike-n.ensures.0, c.alike-n.ensures.1),
+  lines-recovered (filled (goal.at.returns c).After-flag_holes)
+      (lines-stop _ _ _ _ _ _ c.requires.0 _ _ _ _ _ _ _ (beside (goal.at.returns c).After-alike-n) c.alike-n.ensures.2 c.flag_holes.ensures) c.flag_holes.ensures,
+)

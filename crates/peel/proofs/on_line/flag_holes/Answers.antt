@@ -1,0 +1,73 @@
+-- `peel::on_line::flag_holes` gives the missing cells of neighbouring lines flag 3, line after line.
+use mathlib.Core.Path.{◌≡◌, ap, ◌∙◌}
+use Prim.Native.Nat.{◌+◌, ◌-◌, ◌*◌, ◌≤◌, ◌<◌}
+use native.Mathlib.Omega.{arith}
+use lib.ListN.{length, length-set}
+use Rattle.shape.specs.Shapes.{cells}
+use Rattle.shape.proofs.Geometry.{line-cell-lt}
+use Rattle.peel.specs.Inner.OnLine.{Flagged}
+use Rattle.peel.proofs.Visiting.{flagged-none, flagged-more}
+use Rattle.peel.proofs.on_line.flag_holes.Goals as goal
+use Rattle.peel.proofs.on_line.flag_holes.Goals.{In-loop-q}
+
+first_cell : (c : In-loop-q) → c.args.line.first + c.loop-q.q + c.args.line.stride * c.args.e.first < cells c.args.sh
+first_cell c =
+    line-cell-lt _ _ _ _ _ (c.requires.1.0.each c.loop-q.q (omega arith)) (omega (arith, c.requires.1.1))
+
+last-cell : (c : In-loop-q) → c.args.line.first + c.loop-q.q + c.args.line.stride * c.args.e.last < cells c.args.sh
+last-cell c = line-cell-lt _ _ _ _ _ (c.requires.1.0.each c.loop-q.q (omega arith)) c.requires.1.1.1
+
+flags_size : (c : In-loop-q) → length c.loop-q.flags ≡ cells c.args.sh
+flags_size c = c.loop-q.invariant.1.flags ∙ c.requires.0.1
+
+small : (c : In-loop-q) → cells c.args.sh < 18446744073709551616
+small c = omega (arith, c.requires.0.1)
+
+pub loop-q-init : goal.loop-q-init
+loop-q-init c = (omega arith, flagged-none)
+
+pub overflow_add-first : goal.overflow_add-first
+overflow_add-first c = omega (arith, first_cell (goal.at.overflow_add-first c).In-loop-q, small (goal.at.overflow_add-first c).In-loop-q)
+
+pub overflow_mul-stride : goal.overflow_mul-stride
+overflow_mul-stride c = omega (arith, first_cell (goal.at.overflow_mul-stride c).In-loop-q, small (goal.at.overflow_mul-stride c).In-loop-q)
+
+pub overflow_add-first-in-loop-q : goal.overflow_add-first-in-loop-q
+overflow_add-first-in-loop-q c = omega (arith, first_cell (goal.at.overflow_add-first-in-loop-q c).In-loop-q, small (goal.at.overflow_add-first-in-loop-q c).In-loop-q)
+
+pub flag_hole-requires : goal.flag_hole-requires
+flag_hole-requires c = (c.requires.0.0, first_cell (goal.at.flag_hole-requires c).In-loop-q, flags_size (goal.at.flag_hole-requires c).In-loop-q, c.loop-q.invariant.1.size ∙ c.requires.0.2)
+
+pub overflow_add-first-in-loop-q-2 : goal.overflow_add-first-in-loop-q-2
+overflow_add-first-in-loop-q-2 c = omega (arith, last-cell (goal.at.overflow_add-first-in-loop-q-2 c).In-loop-q, small (goal.at.overflow_add-first-in-loop-q-2 c).In-loop-q)
+
+pub overflow_mul-stride-in-loop-q : goal.overflow_mul-stride-in-loop-q
+overflow_mul-stride-in-loop-q c = omega (arith, last-cell (goal.at.overflow_mul-stride-in-loop-q c).In-loop-q, small (goal.at.overflow_mul-stride-in-loop-q c).In-loop-q)
+
+pub overflow_add-first-in-loop-q-3 : goal.overflow_add-first-in-loop-q-3
+overflow_add-first-in-loop-q-3 c = omega (arith, last-cell (goal.at.overflow_add-first-in-loop-q-3 c).In-loop-q, small (goal.at.overflow_add-first-in-loop-q-3 c).In-loop-q)
+
+pub flag_hole-requires-in-loop-q : goal.flag_hole-requires-in-loop-q
+flag_hole-requires-in-loop-q c = (
+  c.requires.0.0,
+  last-cell (goal.at.flag_hole-requires-in-loop-q c).In-loop-q,
+  ap length c.flag_hole.ensures.0 ∙ simp length-set (flags_size (goal.at.flag_hole-requires-in-loop-q c).In-loop-q),
+  c.flag_hole.ensures.1.size ∙ c.loop-q.invariant.1.size ∙ c.requires.0.2,
+)
+
+pub overflow_add-q : goal.overflow_add-q
+overflow_add-q c = omega (arith, c.loop-q.invariant.0)
+
+pub loop-q-preserved : goal.loop-q-preserved
+loop-q-preserved c = (
+  omega arith,
+  flagged-more c.loop-q.invariant.1 (omega (arith, first_cell (goal.at.loop-q-preserved c).In-loop-q, flags_size (goal.at.loop-q-preserved c).In-loop-q)) (omega (arith, last-cell (goal.at.loop-q-preserved c).In-loop-q, flags_size (goal.at.loop-q-preserved c).In-loop-q))
+      c.flag_hole.ensures.1 c.flag_hole-in-loop-q.ensures.1
+      c.flag_hole.ensures.0 c.flag_hole-in-loop-q.ensures.0,
+)
+
+pub shape_of-flags : goal.shape_of-flags
+shape_of-flags c = c.loop-q.invariant.1.flags
+
+pub returns : goal.returns
+returns c = let e : c.loop-q.q ≡ c.args.n = omega (arith, c.loop-q.invariant.0) in rw e at c.loop-q.invariant.1

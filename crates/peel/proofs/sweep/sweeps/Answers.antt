@@ -1,0 +1,51 @@
+-- `peel::sweep::sweeps` sweeps the axes 1, 2, 3 over and over until three of them in succession fill nothing: then no line is left to peel. Each
+-- sweep fills a cell or is idle, so that the measure falls.
+use mathlib.Core.Path.{◌≡◌}
+use mathlib.Core.Logic.{◌≢◌, ◌⊎◌, inl, inr, ⊎_elim}
+use Prim.Native.Nat.{◌+◌, ◌-◌, ◌*◌, ◌≤◌}
+use native.Mathlib.Omega.{arith}
+use Rattle.shape.specs.Shapes.{cells}
+use Rattle.stopping.specs.Stopping.{number}
+use Rattle.shape.specs.Flags.{missing}
+use Rattle.field.specs.Field.{reduction}
+use Rattle.peel.specs.Peel.{Reaches}
+use Rattle.peel.specs.Inner.Sweep.{Calm}
+use Rattle.peel.proofs.Reaching.{reaches-refl, reaches-trans, reaches-sized, Idle, idle-none, turn-idle, turn-bound, turn-less, axes-peeled}
+use Rattle.peel.proofs.sweep.sweeps.Goals as goal
+use Rattle.peel.proofs.sweep.sweeps.Goals.{Joined-filled-eq0}
+
+turn :
+    (c : Joined-filled-eq0) →
+    ((c.sweep-filled.result ≡ 0) × (c.if-filled-eq0.idle ≡ c.loop-idle.idle + 1)) ⊎ ((c.sweep-filled.result ≢ 0) × (c.if-filled-eq0.idle ≡ 0))
+turn c = ⊎_elim (λ w. inl (w.0.taken, w.1)) (λ w. inr (w.0.left, w.1)) c.if-filled-eq0.branch
+
+pub loop-idle-init : goal.loop-idle-init
+loop-idle-init c = (omega arith, omega arith, omega arith, reaches-refl _ _ _ _, idle-none _ _ _, c.requires.1)
+
+pub sweep-filled-requires : goal.sweep-filled-requires
+sweep-filled-requires c =
+    (reaches-sized c.requires.0 c.loop-idle.invariant.3, (c.loop-idle.invariant.5, (c.loop-idle.invariant.0, c.loop-idle.invariant.1)))
+
+pub loop-idle-smaller : goal.loop-idle-smaller
+loop-idle-smaller c = turn-less _ c.sweep-filled.ensures.0 _ _ (turn (goal.at.loop-idle-smaller c).Joined-filled-eq0) (omega arith)
+
+pub loop-idle-preserved : goal.loop-idle-preserved
+loop-idle-preserved c = (
+  omega arith,
+  omega arith,
+  turn-bound _ c.sweep-filled.ensures.0 _ _ (turn (goal.at.loop-idle-preserved c).Joined-filled-eq0) (omega arith),
+  reaches-trans c.loop-idle.invariant.3 c.sweep-filled.ensures.0.reaches,
+  turn-idle _ c.sweep-filled.ensures.0 _ _ (turn (goal.at.loop-idle-preserved c).Joined-filled-eq0) c.loop-idle.invariant.0 c.loop-idle.invariant.1 c.loop-idle.invariant.4,
+  c.sweep-filled.ensures.1,
+)
+
+pub shape_of-cube : goal.shape_of-cube
+shape_of-cube c = c.loop-idle.invariant.3.size
+
+pub shape_of-flags : goal.shape_of-flags
+shape_of-flags c = c.loop-idle.invariant.3.flags
+
+pub returns : goal.returns
+returns c =
+    let e : c.loop-idle.idle ≡ 3 = omega arith in
+    axes-peeled _ c.requires.0.valid c.loop-idle.invariant.0 c.loop-idle.invariant.1 (rw e at c.loop-idle.invariant.4) c.loop-idle.invariant.3
