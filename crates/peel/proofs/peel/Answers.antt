@@ -14,7 +14,10 @@ pub returns-then-not-fits : goal.returns-then-not-fits
 returns-then-not-fits c = cases-refused (decides-false c.before.fits2.ensures c.if-not-fits.true) (refl, refl, refl)
 
 pub sweeps-requires : goal.sweeps-requires
-sweeps-requires c = (sized (goal.at.sweeps-requires c).Else-not-fits, (goal.at.sweeps-requires c).After-marks-1alm-first _ _)
+sweeps-requires c = record {
+      sized = sized (goal.at.sweeps-requires c).Else-not-fits;
+      calm = (goal.at.sweeps-requires c).After-marks-1alm-first _ _;
+    }
 
 pub returns : goal.returns
 returns c = cases_done (sized (goal.at.returns c).Else-not-fits) (refl, c.sweeps.ensures)

@@ -9,11 +9,11 @@ use Rattle.peel.proofs.Lines.{alike-one, alike-more}
 use Rattle.peel.proofs.on_line.alike.Goals as goal
 
 pub loop-n-init : goal.loop-n-init
-loop-n-init c = (omega arith, c.requires.0.0, alike-one c.requires.0.1 c.requires.0.2 c.requires.1.1)
+loop-n-init c = (omega arith, c.requires.le_most.0, alike-one c.requires.le_most.1 c.requires.le_most.2 c.requires.scanned)
 
 pub overflow_add-next : goal.overflow_add-next
 overflow_add-next c =
-    omega (arith, (c.requires.1.0 c.loop-n.n (omega arith)).within 0 (omega (arith, c.requires.1.1.bound c.requires.0.1)))
+    omega (arith, (c.requires.by_index c.loop-n.n (omega arith)).within 0 (omega (arith, c.requires.scanned.bound c.requires.le_most.1)))
 
 pub returns-then-s-e : goal.returns-then-s-e
 returns-then-s-e c = c.loop-n.invariant
@@ -22,7 +22,7 @@ pub loop-n-preserved : goal.loop-n-preserved
 loop-n-preserved c = (
   omega arith,
   omega arith,
-  alike-more c.loop-n.invariant.2 (c.scan_line-s.ensures.done (c.requires.1.0 c.loop-n.n (omega arith))).0 c.if-s-e.false (eqb-true _ _ c.if-s-e-2.false) (eqb-true _ _ c.if-s-e-3.false),
+  alike-more c.loop-n.invariant.2 (c.scan_line-s.ensures.done (c.requires.by_index c.loop-n.n (omega arith))).0 c.if-s-e.false (eqb-true _ _ c.if-s-e-2.false) (eqb-true _ _ c.if-s-e-3.false),
 )
 
 pub returns : goal.returns

@@ -32,48 +32,51 @@ few : (c : Else-count-gt2) → c.scan_line-e.result.count ≤ 2
 few c = c.if-count-gt2.false
 
 beside : (c : After-alike-n) → Neighbours c.args.sh c.args.line.first c.args.line.stride c.args.line.len c.alike-n.result
-beside c = neighbours-fewer c.requires.1.0 c.alike-n.ensures.0 c.alike-n.ensures.1
+beside c = neighbours-fewer c.requires.neighbours c.alike-n.ensures.0 c.alike-n.ensures.1
 
 filled :
     (c : After-flag_holes) →
     Filled reduction c.args.sh (AllStop c.args.line.first c.args.line.stride c.args.line.len c.alike-n.result)
     c.args.cube.now c.args.flags.now c.recover.new.cube c.flag_holes.new.flags (c.scan_line-e.result.count * c.alike-n.result)
 filled c =
-    lines-filled _ _ _ _ _ _ c.requires.0 _ _ _ _ _ _ _ (beside c.before.before.before.before.before.before.before) c.alike-n.ensures.2 c.flag_holes.ensures _ primitive _
+    lines-filled _ _ _ _ _ _ c.requires.sized _ _ _ _ _ _ _ (beside c.before.before.before.before.before.before.before) c.alike-n.ensures.2 c.flag_holes.ensures _ primitive _
     (λ p. omega (arith, c.before.before.before.before.before.before.before.before.before.before.before.before.before.before.slice-known.given p)) c.recover.ensures
 
 pub returns-then-count-eq0 : goal.returns-then-count-eq0
-returns-then-count-eq0 c = (
-  (omega arith, c.requires.1.0.some),
-  line-left _ _ _ _ _ _
+returns-then-count-eq0 c = record {
+      le_lines = (omega arith, c.requires.neighbours.some);
+      lines_visited = line-left _ _ _ _ _ _
       (⊎_elim (λ w. inl (omega (arith, (scanned (goal.at.returns-then-count-eq0 c).After-scan_line-e).number, w.taken)))
-      (λ w. inr (omega (arith, (scanned (goal.at.returns-then-count-eq0 c).After-scan_line-e).number, ltb-true 2 c.scan_line-e.result.count w.1.taken))) c.then-count-eq0.branch),
-)
+      (λ w. inr (omega (arith, (scanned (goal.at.returns-then-count-eq0 c).After-scan_line-e).number, ltb-true 2 c.scan_line-e.result.count w.1.taken))) c.then-count-eq0.branch);
+    }
 
 pub alike-n-requires : goal.alike-n-requires
-alike-n-requires c = (
-  (c.requires.1.0.some, some (goal.at.alike-n-requires c).Else-count-eq0, few (goal.at.alike-n-requires c).Else-count-eq0),
-  (λ q h. line-places _ _ _ _ _ c.requires.0.valid c.requires.0.flags (c.requires.1.0.each q h), scanned (goal.at.alike-n-requires c).After-slice_known-2-1),
-)
+alike-n-requires c = record {
+      le_most = (c.requires.neighbours.some, some (goal.at.alike-n-requires c).Else-count-eq0, few (goal.at.alike-n-requires c).Else-count-eq0);
+      by_index = λ q h. line-places _ _ _ _ _ c.requires.sized.valid c.requires.sized.flags (c.requires.neighbours.each q h);
+      scanned = scanned (goal.at.alike-n-requires c).After-slice_known-2-1;
+    }
 
 pub recover-requires : goal.recover-requires
-recover-requires c = (
-  (c.requires.0.valid, c.requires.0.bytes),
-  (beside (goal.at.recover-requires c).After-alike-n, (scanned-order _ _ _ _ _ _ _ (scanned (goal.at.recover-requires c).After-slice_known-2-1) (some (goal.at.recover-requires c).Else-count-eq0), (scanned (goal.at.recover-requires c).After-slice_known-2-1).bound (some (goal.at.recover-requires c).Else-count-eq0))),
-)
+recover-requires c = record {
+      valid = (c.requires.sized.valid, c.requires.sized.bytes);
+      neighbours = beside (goal.at.recover-requires c).After-alike-n;
+      first_le_last = (scanned-order _ _ _ _ _ _ _ (scanned (goal.at.recover-requires c).After-slice_known-2-1) (some (goal.at.recover-requires c).Else-count-eq0), (scanned (goal.at.recover-requires c).After-slice_known-2-1).bound (some (goal.at.recover-requires c).Else-count-eq0));
+    }
 
 pub flag_holes-requires : goal.flag_holes-requires
-flag_holes-requires c = (
-  (c.requires.0.valid, c.requires.0.flags, c.requires.1.1),
-  (beside (goal.at.flag_holes-requires c).After-alike-n, (scanned-order _ _ _ _ _ _ _ (scanned (goal.at.flag_holes-requires c).After-slice_known-2-1) (some (goal.at.flag_holes-requires c).Else-count-eq0), (scanned (goal.at.flag_holes-requires c).After-slice_known-2-1).bound (some (goal.at.flag_holes-requires c).Else-count-eq0))),
-)
+flag_holes-requires c = record {
+      valid = (c.requires.sized.valid, c.requires.sized.flags, c.requires.marks_len);
+      neighbours = beside (goal.at.flag_holes-requires c).After-alike-n;
+      first_le_last = (scanned-order _ _ _ _ _ _ _ (scanned (goal.at.flag_holes-requires c).After-slice_known-2-1) (some (goal.at.flag_holes-requires c).Else-count-eq0), (scanned (goal.at.flag_holes-requires c).After-slice_known-2-1).bound (some (goal.at.flag_holes-requires c).Else-count-eq0));
+    }
 
 pub overflow_mul-result : goal.overflow_mul-result
-overflow_mul-result c = omega (arith, filled-le (filled (goal.at.overflow_mul-result c).After-flag_holes), c.requires.0.flags)
+overflow_mul-result c = omega (arith, filled-le (filled (goal.at.overflow_mul-result c).After-flag_holes), c.requires.sized.flags)
 
 pub returns : goal.returns
-returns c = (
-  (c.alike-n.ensures.0, c.alike-n.ensures.1),
-  lines-recovered (filled (goal.at.returns c).After-flag_holes)
-      (lines-stop _ _ _ _ _ _ c.requires.0 _ _ _ _ _ _ _ (beside (goal.at.returns c).After-alike-n) c.alike-n.ensures.2 c.flag_holes.ensures) c.flag_holes.ensures,
-)
+returns c = record {
+      le_lines = (c.alike-n.ensures.0, c.alike-n.ensures.1);
+      lines_visited = lines-recovered (filled (goal.at.returns c).After-flag_holes)
+      (lines-stop _ _ _ _ _ _ c.requires.sized _ _ _ _ _ _ _ (beside (goal.at.returns c).After-alike-n) c.alike-n.ensures.2 c.flag_holes.ensures) c.flag_holes.ensures;
+    }

@@ -8,4 +8,7 @@ pub wake-requires : goal.wake-requires
 wake-requires c = (c.requires.0, c.requires.1, c.requires.3)
 
 pub returns : goal.returns
-returns c = (refl, c.wake.ensures)
+returns c = record {
+      flags_after = refl;
+      woken = c.wake.ensures;
+    }

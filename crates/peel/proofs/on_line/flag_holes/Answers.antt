@@ -12,16 +12,16 @@ use Rattle.peel.proofs.on_line.flag_holes.Goals.{In-loop-q}
 
 first_cell : (c : In-loop-q) → c.args.line.first + c.loop-q.q + c.args.line.stride * c.args.e.first < cells c.args.sh
 first_cell c =
-    line-cell-lt _ _ _ _ _ (c.requires.1.0.each c.loop-q.q (omega arith)) (omega (arith, c.requires.1.1))
+    line-cell-lt _ _ _ _ _ (c.requires.neighbours.each c.loop-q.q (omega arith)) (omega (arith, c.requires.first_le_last))
 
 last-cell : (c : In-loop-q) → c.args.line.first + c.loop-q.q + c.args.line.stride * c.args.e.last < cells c.args.sh
-last-cell c = line-cell-lt _ _ _ _ _ (c.requires.1.0.each c.loop-q.q (omega arith)) c.requires.1.1.1
+last-cell c = line-cell-lt _ _ _ _ _ (c.requires.neighbours.each c.loop-q.q (omega arith)) c.requires.first_le_last.1
 
 flags_size : (c : In-loop-q) → length c.loop-q.flags ≡ cells c.args.sh
-flags_size c = c.loop-q.invariant.1.flags ∙ c.requires.0.1
+flags_size c = c.loop-q.invariant.1.flags ∙ c.requires.valid.1
 
 small : (c : In-loop-q) → cells c.args.sh < 18446744073709551616
-small c = omega (arith, c.requires.0.1)
+small c = omega (arith, c.requires.valid.1)
 
 pub loop-q-init : goal.loop-q-init
 loop-q-init c = (omega arith, flagged-none)
@@ -36,7 +36,7 @@ pub overflow_add-first-in-loop-q : goal.overflow_add-first-in-loop-q
 overflow_add-first-in-loop-q c = omega (arith, first_cell (goal.at.overflow_add-first-in-loop-q c).In-loop-q, small (goal.at.overflow_add-first-in-loop-q c).In-loop-q)
 
 pub flag_hole-requires : goal.flag_hole-requires
-flag_hole-requires c = (c.requires.0.0, first_cell (goal.at.flag_hole-requires c).In-loop-q, flags_size (goal.at.flag_hole-requires c).In-loop-q, c.loop-q.invariant.1.size ∙ c.requires.0.2)
+flag_hole-requires c = (c.requires.valid.0, first_cell (goal.at.flag_hole-requires c).In-loop-q, flags_size (goal.at.flag_hole-requires c).In-loop-q, c.loop-q.invariant.1.size ∙ c.requires.valid.2)
 
 pub overflow_add-first-in-loop-q-2 : goal.overflow_add-first-in-loop-q-2
 overflow_add-first-in-loop-q-2 c = omega (arith, last-cell (goal.at.overflow_add-first-in-loop-q-2 c).In-loop-q, small (goal.at.overflow_add-first-in-loop-q-2 c).In-loop-q)
@@ -49,10 +49,10 @@ overflow_add-first-in-loop-q-3 c = omega (arith, last-cell (goal.at.overflow_add
 
 pub flag_hole-requires-in-loop-q : goal.flag_hole-requires-in-loop-q
 flag_hole-requires-in-loop-q c = (
-  c.requires.0.0,
+  c.requires.valid.0,
   last-cell (goal.at.flag_hole-requires-in-loop-q c).In-loop-q,
   ap length c.flag_hole.ensures.0 ∙ simp length-set (flags_size (goal.at.flag_hole-requires-in-loop-q c).In-loop-q),
-  c.flag_hole.ensures.1.size ∙ c.loop-q.invariant.1.size ∙ c.requires.0.2,
+  c.flag_hole.ensures.1.size ∙ c.loop-q.invariant.1.size ∙ c.requires.valid.2,
 )
 
 pub overflow_add-q : goal.overflow_add-q
@@ -65,9 +65,6 @@ loop-q-preserved c = (
       c.flag_hole.ensures.1 c.flag_hole-in-loop-q.ensures.1
       c.flag_hole.ensures.0 c.flag_hole-in-loop-q.ensures.0,
 )
-
-pub shape_of-flags : goal.shape_of-flags
-shape_of-flags c = c.loop-q.invariant.1.flags
 
 pub returns : goal.returns
 returns c = let e : c.loop-q.q ≡ c.args.n = omega (arith, c.loop-q.invariant.0) in rw e at c.loop-q.invariant.1

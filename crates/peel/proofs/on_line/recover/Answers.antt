@@ -10,25 +10,25 @@ use Rattle.peel.proofs.on_line.recover.Goals as goal
 use Rattle.peel.proofs.on_line.recover.Goals.{Start}
 
 few : (c : Start) → c.args.line.len ≤ 255
-few c = line-length-high _ _ _ _ c.requires.0.0 (neighbours-first c.requires.1.0)
+few c = line-length-high _ _ _ _ c.requires.valid.0 (neighbours-first c.requires.neighbours)
 
 pub overflow_mul-run : goal.overflow_mul-run
-overflow_mul-run c = omega (arith, first-room _ c.args.cube.now c.requires.0.0 c.requires.0.1 _ _ _ _ c.requires.1.0)
+overflow_mul-run c = omega (arith, first-room _ c.args.cube.now c.requires.valid.0 c.requires.valid.1 _ _ _ _ c.requires.neighbours)
 
 pub overflow_mul-run-2 : goal.overflow_mul-run-2
-overflow_mul-run-2 c = omega (arith, stride-room _ c.args.cube.now c.requires.0.0 c.requires.0.1 _ _ _ _ c.requires.1.0)
+overflow_mul-run-2 c = omega (arith, stride-room _ c.args.cube.now c.requires.valid.0 c.requires.valid.1 _ _ _ _ c.requires.neighbours)
 
 pub overflow_mul-run-3 : goal.overflow_mul-run-3
-overflow_mul-run-3 c = omega (arith, width_room _ c.args.cube.now c.requires.0.0 c.requires.0.1 _ _ _ _ c.requires.1.0)
+overflow_mul-run-3 c = omega (arith, width_room _ c.args.cube.now c.requires.valid.0 c.requires.valid.1 _ _ _ _ c.requires.neighbours)
 
 pub overflow_cast-e : goal.overflow_cast-e
-overflow_cast-e c = omega (arith, few (goal.at.overflow_cast-e c).Start, c.requires.1.1)
+overflow_cast-e c = omega (arith, few (goal.at.overflow_cast-e c).Start, c.requires.first_le_last)
 
 pub overflow_cast-e-2 : goal.overflow_cast-e-2
-overflow_cast-e-2 c = omega (arith, few (goal.at.overflow_cast-e-2 c).Start, c.requires.1.1)
+overflow_cast-e-2 c = omega (arith, few (goal.at.overflow_cast-e-2 c).Start, c.requires.first_le_last)
 
 pub returns : goal.returns
 unfolding run_of
 returns c =
     outcome-solved _ _ _ _ _ _ _ (rw (c.erasures_at-erasures.ensures, c.reduction-reduction.ensures) at c.solve.ensures)
-    (lines-inside _ c.args.cube.now c.requires.0.0 c.requires.0.1 _ _ _ _ c.requires.1.0) c.requires.1.1.0 c.requires.1.1.1
+    (lines-inside _ c.args.cube.now c.requires.valid.0 c.requires.valid.1 _ _ _ _ c.requires.neighbours) c.requires.first_le_last.0 c.requires.first_le_last.1

@@ -13,34 +13,32 @@ swept :
     (c : After-next_awake-g) →
     Filled reduction c.args.sh (LinesStop c.args.sh c.args.axis 0 (c.next_awake-g.result * 8))
     c.args.cube.now c.args.flags.now c.loop-g.cube c.loop-g.flags c.loop-g.filled
-swept c = swept-quiet c.requires.1.1.0 c.requires.1.1.1 c.loop-g.invariant.1 c.next_awake-g.ensures.2 c.loop-g.invariant.2
+swept c = swept-quiet c.requires.le_axis.0 c.requires.le_axis.1 c.loop-g.invariant.1 c.next_awake-g.ensures.2 c.loop-g.invariant.2
 
 pub groups-groups-requires : goal.groups-groups-requires
-groups-groups-requires c = (c.requires.0.valid, c.requires.1.1.0, c.requires.1.1.1)
+groups-groups-requires c = (c.requires.sized.valid, c.requires.le_axis.0, c.requires.le_axis.1)
 
 pub loop-g-init : goal.loop-g-init
-loop-g-init c = (omega arith, c.requires.1.0, swept_none)
+loop-g-init c = (omega arith, c.requires.calm, swept_none)
 
 pub next_awake-g-requires : goal.next_awake-g-requires
-next_awake-g-requires c = (c.requires.1.1.0, c.requires.1.1.1, c.loop-g.invariant.0, c.groups-groups.ensures.1, c.loop-g.invariant.1.size)
-
-pub shape_of-cube-then-g-groups : goal.shape_of-cube-then-g-groups
-shape_of-cube-then-g-groups c = c.loop-g.invariant.2.reaches.size
-
-pub shape_of-flags-then-g-groups : goal.shape_of-flags-then-g-groups
-shape_of-flags-then-g-groups c = c.loop-g.invariant.2.reaches.flags
+next_awake-g-requires c = (c.requires.le_axis.0, c.requires.le_axis.1, c.loop-g.invariant.0, c.groups-groups.ensures.1, c.loop-g.invariant.1.size)
 
 pub returns-then-g-groups : goal.returns-then-g-groups
-returns-then-g-groups c = (swept_all _ c.requires.0.valid c.groups-groups.ensures.0 (rw c.if-g-groups.true at (swept (goal.at.returns-then-g-groups c).After-next_awake-g)), c.loop-g.invariant.1)
+returns-then-g-groups c = record {
+      filled = swept_all _ c.requires.sized.valid c.groups-groups.ensures.0 (rw c.if-g-groups.true at (swept (goal.at.returns-then-g-groups c).After-next_awake-g));
+      calm_2 = c.loop-g.invariant.1;
+    }
 
 pub group-filled-requires : goal.group-filled-requires
-group-filled-requires c = (
-  reaches-sized c.requires.0 c.loop-g.invariant.2.reaches,
-  (c.loop-g.invariant.1, (c.requires.1.1.0, c.requires.1.1.1, omega (arith, c.next_awake-g.ensures.1, c.groups-groups.ensures.1))),
-)
+group-filled-requires c = record {
+      sized = reaches-sized c.requires.sized c.loop-g.invariant.2.reaches;
+      calm = c.loop-g.invariant.1;
+      le_axis = (c.requires.le_axis.0, c.requires.le_axis.1, omega (arith, c.next_awake-g.ensures.1, c.groups-groups.ensures.1));
+    }
 
 pub overflow_add-filled : goal.overflow_add-filled
-overflow_add-filled c = omega (arith, filled-le (swept-group _ (swept (goal.at.overflow_add-filled c).After-next_awake-g) c.group-filled.ensures.0), c.requires.0.flags)
+overflow_add-filled c = omega (arith, filled-le (swept-group _ (swept (goal.at.overflow_add-filled c).After-next_awake-g) c.group-filled.ensures.0), c.requires.sized.flags)
 
 pub overflow_add-g : goal.overflow_add-g
 overflow_add-g c = omega (arith, c.next_awake-g.ensures.1, c.groups-groups.ensures.1)

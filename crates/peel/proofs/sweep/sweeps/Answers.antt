@@ -20,11 +20,15 @@ turn :
 turn c = ⊎_elim (λ w. inl (w.0.taken, w.1)) (λ w. inr (w.0.left, w.1)) c.if-filled-eq0.branch
 
 pub loop-idle-init : goal.loop-idle-init
-loop-idle-init c = (omega arith, omega arith, omega arith, reaches-refl _ _ _ _, idle-none _ _ _, c.requires.1)
+loop-idle-init c = (omega arith, omega arith, omega arith, reaches-refl _ _ _ _, idle-none _ _ _, c.requires.calm)
 
 pub sweep-filled-requires : goal.sweep-filled-requires
 sweep-filled-requires c =
-    (reaches-sized c.requires.0 c.loop-idle.invariant.3, (c.loop-idle.invariant.5, (c.loop-idle.invariant.0, c.loop-idle.invariant.1)))
+    record {
+      sized = reaches-sized c.requires.sized c.loop-idle.invariant.3;
+      calm = c.loop-idle.invariant.5;
+      le_axis = (c.loop-idle.invariant.0, c.loop-idle.invariant.1);
+    }
 
 pub loop-idle-smaller : goal.loop-idle-smaller
 loop-idle-smaller c = turn-less _ c.sweep-filled.ensures.0 _ _ (turn (goal.at.loop-idle-smaller c).Joined-filled-eq0) (omega arith)
@@ -39,13 +43,7 @@ loop-idle-preserved c = (
   c.sweep-filled.ensures.1,
 )
 
-pub shape_of-cube : goal.shape_of-cube
-shape_of-cube c = c.loop-idle.invariant.3.size
-
-pub shape_of-flags : goal.shape_of-flags
-shape_of-flags c = c.loop-idle.invariant.3.flags
-
 pub returns : goal.returns
 returns c =
     let e : c.loop-idle.idle ≡ 3 = omega arith in
-    axes-peeled _ c.requires.0.valid c.loop-idle.invariant.0 c.loop-idle.invariant.1 (rw e at c.loop-idle.invariant.4) c.loop-idle.invariant.3
+    axes-peeled _ c.requires.sized.valid c.loop-idle.invariant.0 c.loop-idle.invariant.1 (rw e at c.loop-idle.invariant.4) c.loop-idle.invariant.3

@@ -15,21 +15,25 @@ found : (c : In-Found) → line_of c.args.sh c.args.axis c.args.m ≡ passes c.i
 found c = line-told _ _ _ _ _ c.axis_line-found.ensures c.in-Found.is
 
 pub returns-in_default : goal.returns-in_default
-returns-in_default c = (
-  (omega arith, omega arith),
-  visited-past _ _ _ _
-      (lines-ended _ _ _ _ c.requires.0.valid c.requires.1.0 c.requires.1.1 (line_refused _ _ _ _ _ c.axis_line-found.ensures c.in_default.is)),
-)
+returns-in_default c = record {
+      le_lines = (omega arith, omega arith);
+      visited = visited-past _ _ _ _
+      (lines-ended _ _ _ _ c.requires.sized.valid c.requires.le_axis.0 c.requires.le_axis.1 (line_refused _ _ _ _ _ c.axis_line-found.ensures c.in_default.is));
+    }
 
 pub beside-requires : goal.beside-requires
-beside-requires c = (line-stride-pos _ _ _ _ c.requires.0.valid (line-found _ _ _ _ (found (goal.at.beside-requires c).In-Found)), c.requires.1.2)
+beside-requires c = (line-stride-pos _ _ _ _ c.requires.sized.valid (line-found _ _ _ _ (found (goal.at.beside-requires c).In-Found)), c.requires.le_axis.2)
 
 pub fill_lines-requires : goal.fill_lines-requires
 fill_lines-requires c =
-    (c.requires.0, (neighbours-of _ _ _ _ (found (goal.at.fill_lines-requires c).In-Found) _ c.beside.ensures.0 c.beside.ensures.2, c.requires.1.3))
+    record {
+      sized = c.requires.sized;
+      neighbours = neighbours-of _ _ _ _ (found (goal.at.fill_lines-requires c).In-Found) _ c.beside.ensures.0 c.beside.ensures.2;
+      marks_len = c.requires.le_axis.3;
+    }
 
 pub returns : goal.returns
-returns c = (
-  (c.fill_lines.ensures.0.0, omega (arith, c.fill_lines.ensures.0.1, c.beside.ensures.1)),
-  visited-lines _ _ (found (goal.at.returns c).In-Found) (omega (arith, c.fill_lines.ensures.0.1, c.beside.ensures.2)) c.fill_lines.ensures.1,
-)
+returns c = record {
+      le_lines = (c.fill_lines.ensures.0.0, omega (arith, c.fill_lines.ensures.0.1, c.beside.ensures.1));
+      visited = visited-lines _ _ (found (goal.at.returns c).In-Found) (omega (arith, c.fill_lines.ensures.0.1, c.beside.ensures.2)) c.fill_lines.ensures.1;
+    }

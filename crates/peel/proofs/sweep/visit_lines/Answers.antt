@@ -14,34 +14,28 @@ visited :
     (c : After-visit-step) →
     Visited reduction c.args.sh c.args.axis c.args.from (c.loop-m.m + c.visit-step.result.lines) c.args.cube.now c.args.flags.now
     c.args.marks.now c.visit-step.new.cube c.visit-step.new.flags.0 c.visit-step.new.flags.1.0 (c.loop-m.filled + c.visit-step.result.filled)
-visited c = visited-next c.requires.1.0 c.requires.1.1 c.loop-m.invariant.1 c.visit-step.ensures.1
+visited c = visited-next c.requires.le_axis.0 c.requires.le_axis.1 c.loop-m.invariant.1 c.visit-step.ensures.1
 
 pub loop-m-init : goal.loop-m-init
 loop-m-init c = (omega arith, visited-none _ _ _ _)
 
 pub visit-step-requires : goal.visit-step-requires
-visit-step-requires c = (
-  reaches-sized c.requires.0 c.loop-m.invariant.1.filled.reaches,
-  (c.requires.1.0, c.requires.1.1, omega arith, c.loop-m.invariant.1.keeps.size ∙ c.requires.1.3),
-)
+visit-step-requires c = record {
+      sized = reaches-sized c.requires.sized c.loop-m.invariant.1.filled.reaches;
+      le_axis = (c.requires.le_axis.0, c.requires.le_axis.1, omega arith, c.loop-m.invariant.1.keeps.size ∙ c.requires.le_axis.3);
+    }
 
 pub overflow_add-filled : goal.overflow_add-filled
-overflow_add-filled c = omega (arith, filled-le (visited (goal.at.overflow_add-filled c).After-visit-step).filled, c.requires.0.flags)
+overflow_add-filled c = omega (arith, filled-le (visited (goal.at.overflow_add-filled c).After-visit-step).filled, c.requires.sized.flags)
 
 pub overflow_add-m : goal.overflow_add-m
-overflow_add-m c = omega (arith, c.visit-step.ensures.0, c.requires.1)
+overflow_add-m c = omega (arith, c.visit-step.ensures.0, c.requires.le_axis)
 
 pub loop-m-smaller : goal.loop-m-smaller
 loop-m-smaller c = omega (arith, c.visit-step.ensures.0, c.loop-m.invariant)
 
 pub loop-m-preserved : goal.loop-m-preserved
 loop-m-preserved c = (omega (arith, c.loop-m.invariant), visited (goal.at.loop-m-preserved c).After-visit-step)
-
-pub shape_of-cube : goal.shape_of-cube
-shape_of-cube c = c.loop-m.invariant.1.filled.reaches.size
-
-pub shape_of-flags : goal.shape_of-flags
-shape_of-flags c = c.loop-m.invariant.1.filled.reaches.flags
 
 pub returns : goal.returns
 returns c = visited-fewer (omega arith) c.loop-m.invariant.1
