@@ -26,9 +26,10 @@ sound c = job-sound _ _ _ (read c)
 
 fits :
     (c : Else-not-slices_fit) →
+    JobSound c.args.job.now c.in-Job.h c.in-Job.file →
     let h = c.in-Job.h in
     (length c.args.cube.now ≡ h.shape.w * cells h.shape) × (length c.args.output.now ≡ pack_size h)
-fits c = fits-parts _ _ _ (sound c.before.before.before) _ _ (sym c.slices_fit.ensures ∙ c.if-not-slices_fit.false)
+fits c s = fits-parts _ _ _ s _ _ (sym c.slices_fit.ensures ∙ c.if-not-slices_fit.false)
 
 -- ---- the needs
 
@@ -39,17 +40,17 @@ pub returns-then-not-slices_fit : goal.returns-then-not-slices_fit
 returns-then-not-slices_fit c = unfit-slices _ _ _ _ _ _ (read (goal.at.returns-then-not-slices_fit c).In-Job) (sym c.slices_fit.ensures ∙ c.if-not-slices_fit.true)
 
 pub lay_file-requires : goal.lay_file-requires
-lay_file-requires c = (sound (goal.at.lay_file-requires c).In-Job, (fits (goal.at.lay_file-requires c).Else-not-slices_fit).0)
+lay_file-requires c = (sound (goal.at.lay_file-requires c).In-Job, (fits (goal.at.lay_file-requires c).Else-not-slices_fit (sound (goal.at.lay_file-requires c).In-Job)).0)
 
 pub returns-in-Refused : goal.returns-in-Refused
 returns-in-Refused c = unread-job _ _ _ _ _ (job-refused _ _ c.read_job.ensures _ c.in-Refused.is)
 
 pub returns-else-not-slices_fit : goal.returns-else-not-slices_fit
 returns-else-not-slices_fit c =
-    let cube = file-encoded _ _ _ (sound (goal.at.returns-else-not-slices_fit c).In-Job) _ _ _ primitive (c.lay_file.auto.cube.0 ∙ (fits (goal.at.returns-else-not-slices_fit c).Else-not-slices_fit).0)
+    let cube = file-encoded _ _ _ (sound (goal.at.returns-else-not-slices_fit c).In-Job) _ _ _ primitive (c.lay_file.auto.cube ∙ (fits (goal.at.returns-else-not-slices_fit c).Else-not-slices_fit (sound (goal.at.returns-else-not-slices_fit c).In-Job)).0)
     (λ (i : ℕ). omega (arith, c.slice_known-in-Job-1.given i)) c.lay_file.ensures c.complete.ensures in
     written-job _ _ _ _ _ _ (read (goal.at.returns-else-not-slices_fit c).In-Job) _ _ (sym c.slices_fit.ensures ∙ c.if-not-slices_fit.false)
     (record {
       cube = cube;
-      pack = air-wrote _ _ _ _ _ c.write_air.ensures (sound-sent _ (sound (goal.at.returns-else-not-slices_fit c).In-Job).header) cube.code.size (fits (goal.at.returns-else-not-slices_fit c).Else-not-slices_fit).1;
+      pack = air-wrote _ _ _ _ _ c.write_air.ensures (sound-sent _ (sound (goal.at.returns-else-not-slices_fit c).In-Job).header) cube.code.size (fits (goal.at.returns-else-not-slices_fit c).Else-not-slices_fit (sound (goal.at.returns-else-not-slices_fit c).In-Job)).1;
     })
