@@ -1,6 +1,5 @@
 -- `answer::number` meets its contract, arm by arm. Assumes nothing.
 use mathlib.Core.Path.{sym}
-use borrow.Author.Rules.{rules}
 use Rattle.answer.specs.Refusals.{fault_number}
 use Rattle.answer.specs.Values.{refusal, number_of}
 use Rattle.answer.proofs.Values.{packet-fault-number}

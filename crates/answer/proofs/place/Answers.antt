@@ -1,5 +1,4 @@
 -- `answer::place` meets its contract.
-use borrow.Author.Rules.{rules}
 use Rattle.answer.specs.Values.{refusal, place_of}
 use Rattle.answer.proofs.place.Goals as goal
 

@@ -1,7 +1,6 @@
 -- `cursor::count_bytes` meets its contract.
 use mathlib.Core.Path.{refl}
 use Rattle.cursor.specs.Steps.{word_bytes}
-use borrow.Author.Rules.{rules}
 use Rattle.cursor.proofs.count_bytes.Goals as goal
 
 pub returns : goal.returns

@@ -1,7 +1,5 @@
 -- `cursor::word` meets its contract: four bytes stay below 2^32. Assumes nothing.
-use native.Mathlib.Omega.{arith}
 use Rattle.cursor.specs.Steps.{word}
-use borrow.Author.Rules.{rules}
 use Rattle.cursor.proofs.word.Goals as goal
 
 pub returns : goal.returns

@@ -1,12 +1,11 @@
 -- `inverse` squares once a turn: after n turns the square is the power 2^n and the product the power 2^(n + 1) - 2, so that
 -- seven turns end at the power 254. The measure is the turns left.
 use mathlib.Core.Path.{◌≡◌, refl, sym, ap, ap₂, ◌∙◌}
-use Prim.Native.Nat.{ℕ, ◌+◌, ◌*◌, ◌-◌, ◌^◌, ◌≤◌, ◌<◌}
+use Prim.Native.Nat.{ℕ, ◌+◌, ◌*◌, ◌-◌, ◌^◌, ◌<◌}
 use native.Mathlib.Nat.{pow-suc}
 use native.Mathlib.Numerals.{add-one}
 use native.Mathlib.Omega.{arith}
 use lib.Pow.{pow_pos}
-use borrow.Author.Rules.{rules}
 use Rattle.field.specs.Field.{mul, expt, inverse}
 use Rattle.field.proofs.Power.{expt-one, expt-add}
 use Rattle.field.proofs.inverse.Invariants.{Squares}

@@ -1,6 +1,5 @@
 -- `masked` takes the byte whole or not at all, by a mask of one bit.
 use native.Mathlib.Omega.{arith}
-use borrow.Author.Rules.{rules}
 use Rattle.field.proofs.Mask.{and-bit}
 use Rattle.field.proofs.masked.Goals as goal
 

@@ -1,6 +1,5 @@
 -- `masked_sum` adds what the two calls give.
 use mathlib.Core.Path.{ap₂}
-use borrow.Author.Rules.{rules}
 use Rattle.field.specs.Field.{add}
 use Rattle.field.proofs.masked_sum.Goals as goal
 

@@ -1,9 +1,8 @@
 -- `pow` multiplies 1 by α, once a turn: after n turns it holds the n-th power. The measure is the turns left.
 use mathlib.Core.Path.{◌≡◌, sym, ap, ◌∙◌}
-use Prim.Native.Nat.{ℕ, ◌+◌, ◌-◌, ◌≤◌}
+use Prim.Native.Nat.{ℕ, ◌+◌}
 use native.Mathlib.Numerals.{add-one}
 use native.Mathlib.Omega.{arith}
-use borrow.Author.Rules.{rules}
 use Rattle.field.specs.Field.{xtime, pow}
 use Rattle.field.proofs.Power.{pow-zero, pow-suc}
 use Rattle.field.proofs.pow.Goals as goal

@@ -1,6 +1,5 @@
 -- `step` adds what the two calls give.
 use mathlib.Core.Path.{ap₂}
-use borrow.Author.Rules.{rules}
 use Rattle.field.specs.Field.{add}
 use Rattle.field.proofs.step.Goals as goal
 

@@ -1,6 +1,5 @@
 -- `xtime` adds the reduction byte by a mask of the highest bit.
 use native.Mathlib.Omega.{arith}
-use borrow.Author.Rules.{rules}
 use Rattle.field.specs.Field.{add}
 use Rattle.field.proofs.Mask.{xtime-mask}
 use Rattle.field.proofs.xtime.Goals as goal

@@ -1,8 +1,6 @@
 -- `shape::axis_line` meets its contract: the axis is asked first, then the shape. Assumes nothing.
 use mathlib.Core.Path.{◌≡◌, sym, ◌∙◌}
 use mathlib.Core.Bool.{true}
-use borrow.Author.Rules.{rules}
-use borrow.Author.Tests.{not-true, not-false}
 use Rattle.answer.specs.Refusals.{fault_number}
 use Rattle.answer.specs.Values.{passes, check, and_then, checked, refusal}
 use Rattle.answer.proofs.Values.{then-refused}

@@ -1,6 +1,5 @@
 -- `shape::lengths_fit` meets its contract. Assumes nothing.
 use mathlib.Core.Path.{sym, ◌∙◌}
-use borrow.Author.Rules.{rules}
 use Rattle.shape.specs.Shapes.{both, lengths_fit}
 use Rattle.shape.proofs.lengths_fit.Goals as goal
 

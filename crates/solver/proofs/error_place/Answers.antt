@@ -1,6 +1,5 @@
 -- `solver::error_place` gives the place of a single error: none where a syndrome is 0.
 use Rattle.solver.specs.Solver.{PlaceOutcome}
-use borrow.Author.Rules.{rules}
 use Rattle.solver.proofs.error_place.Goals as goal
 
 pub returns-then-v0-eq0 : goal.returns-then-v0-eq0

@@ -1,7 +1,6 @@
 -- `solver::invert` gives the inverse of a two by two array by value.
 use Rattle.field.specs.Field.{add}
 use Rattle.solver.specs.Inner.Solver.{entry, adjugate, inverted}
-use borrow.Author.Rules.{rules}
 use Rattle.solver.proofs.invert.Goals as goal
 
 pub mul-requires : goal.mul-requires

@@ -1,9 +1,7 @@
 -- `solver::search` finds the first place below n at which v0 times the power of α is v1.
-use mathlib.Core.Path.{◌≡◌, sym, ◌∙◌}
-use Prim.Native.Nat.{ℕ, ◌-◌, ◌≤◌, ◌<◌}
+use mathlib.Core.Path.{sym, ◌∙◌}
 use native.Mathlib.Omega.{arith}
 use borrow.Author.Count.{below_more}
-use Rattle.field.specs.Field.{xtime, mul, pow}
 use Rattle.solver.specs.Solver.{PlaceOutcome}
 use Rattle.solver.proofs.Places.{error-place-first, power-first, power-next}
 use Rattle.solver.proofs.search.Goals as goal

@@ -1,11 +1,7 @@
 -- `solver::search` finds the first place below n at which v0 times the power of α is v1.
-use mathlib.Core.Path.{◌≡◌, sym, ◌∙◌}
+use mathlib.Core.Path.{◌≡◌}
 use Prim.Native.Nat.{ℕ, ◌-◌, ◌≤◌, ◌<◌}
-use native.Mathlib.Omega.{arith}
-use borrow.Author.Count.{below_more}
-use Rattle.field.specs.Field.{xtime, mul, pow}
-use Rattle.solver.specs.Solver.{PlaceOutcome}
-use Rattle.solver.proofs.Places.{error-place-first, power-first, power-next}
+use Rattle.field.specs.Field.{mul, pow}
 use Rattle.solver.proofs.search.Given as goal
 
 abbrev pub invariant-loop-j : goal.invariant-loop-j

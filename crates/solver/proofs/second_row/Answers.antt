@@ -3,7 +3,6 @@ use mathlib.Core.Path.{ap₂}
 use mathlib.Core.List.{[], ◌∷◌}
 use Prim.Native.Nat.{ℕ}
 use Rattle.solver.specs.Inner.Solver.{entry, adjugate, inverted}
-use borrow.Author.Rules.{rules}
 use Rattle.solver.proofs.Rows.{rows_same, row0-other, row1-other}
 use Rattle.solver.proofs.second_row.Goals as goal
 

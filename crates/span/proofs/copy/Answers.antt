@@ -1,7 +1,6 @@
 -- `copy` tests that both spans lie inside, and leaves the rest to its two loops.
 use mathlib.Core.Path.{refl}
 use native.Mathlib.Omega.{arith}
-use borrow.Author.Rules.{rules}
 use Rattle.span.proofs.Decision.{decides-false, decides-true, cases_done, cases-refused}
 use Rattle.span.proofs.copy.Goals as goal
 

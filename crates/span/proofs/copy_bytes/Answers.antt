@@ -1,8 +1,6 @@
 -- `copy_bytes` writes byte after byte: those below i are copied, all others kept.
 use mathlib.Core.Path.{◌≡◌, refl}
-use Prim.Native.Nat.{◌≤◌, ◌-◌}
 use native.Mathlib.Omega.{arith}
-use Rattle.span.specs.Span.{Copied}
 use Rattle.span.proofs.Copying.{copied_none, copied_more}
 use Rattle.span.proofs.copy_bytes.Goals as goal
 

@@ -1,8 +1,7 @@
 -- `copy_pieces` copies piece after piece; the last one may reach back into bytes that are copied already.
 use mathlib.Core.Path.{◌≡◌, refl, ◌∙◌}
-use Prim.Native.Nat.{◌+◌, ◌-◌, ◌<◌}
+use Prim.Native.Nat.{◌+◌, ◌-◌}
 use native.Mathlib.Omega.{arith}
-use Rattle.span.specs.Span.{Copied}
 use Rattle.span.proofs.Copying.{copied_none, copied-longer}
 use Rattle.span.proofs.copy_pieces.Goals as goal
 

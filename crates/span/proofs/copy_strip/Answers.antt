@@ -1,6 +1,5 @@
 -- `copy_strip` tests that both spans lie inside, and leaves the rest to `strip`.
 use mathlib.Core.Path.{refl}
-use borrow.Author.Rules.{rules}
 use Rattle.span.proofs.Decision.{decides-false, decides-true, cases_done, cases-refused}
 use Rattle.span.proofs.copy_strip.Goals as goal
 

@@ -1,9 +1,8 @@
 -- `put` writes byte after byte: those below i are copied, all others kept.
 use mathlib.Core.Path.{◌≡◌, refl, ap}
-use Prim.Native.Nat.{ℕ, ◌≤◌, ◌-◌}
+use Prim.Native.Nat.{ℕ}
 use native.Mathlib.Omega.{arith}
 use lib.ListN.{get_or}
-use Rattle.span.specs.Span.{Copied}
 use Rattle.span.proofs.Copying.{copied_none, copied_more}
 use Rattle.span.proofs.put.Goals as goal
 

@@ -1,10 +1,6 @@
 -- `put` writes byte after byte: those below i are copied, all others kept.
-use mathlib.Core.Path.{◌≡◌, refl, ap}
-use Prim.Native.Nat.{ℕ, ◌≤◌, ◌-◌}
-use native.Mathlib.Omega.{arith}
-use lib.ListN.{get_or}
+use Prim.Native.Nat.{◌≤◌, ◌-◌}
 use Rattle.span.specs.Span.{Copied}
-use Rattle.span.proofs.Copying.{copied_none, copied_more}
 use Rattle.span.proofs.put.Given as goal
 
 abbrev pub invariant-loop-i : goal.invariant-loop-i

@@ -1,14 +1,8 @@
 -- `same` joins the differences in one byte, which is 00h exactly when all are.
 use mathlib.Core.Path.{◌≡◌}
-use mathlib.Core.List.{List}
-use Prim.Native.Nat.{ℕ, ◌+◌, ◌-◌, ◌≤◌}
 use native.Mathlib.Omega.{arith}
-use lib.ListN.{get_or}
-use borrow.Author.Rules.{rules}
-use Rattle.span.specs.Span.{BothInside}
 use Rattle.span.proofs.Decision.{decides-no, decides_eq, decides-false, decides-true}
-use Rattle.span.proofs.Joining.{Joined, joined-none, joined-more, xor-zero, xor_same}
-use Rattle.span.proofs.same.Invariants.{Agree}
+use Rattle.span.proofs.Joining.{joined-none, joined-more, xor-zero, xor_same}
 use Rattle.span.proofs.same.Goals as goal
 
 pub returns-then-not-inside : goal.returns-then-not-inside

@@ -2,12 +2,9 @@
 use mathlib.Core.Path.{◌≡◌}
 use mathlib.Core.List.{List}
 use Prim.Native.Nat.{ℕ, ◌+◌, ◌-◌, ◌≤◌}
-use native.Mathlib.Omega.{arith}
 use lib.ListN.{get_or}
-use borrow.Author.Rules.{rules}
 use Rattle.span.specs.Span.{BothInside}
-use Rattle.span.proofs.Decision.{decides-no, decides_eq, decides-false, decides-true}
-use Rattle.span.proofs.Joining.{Joined, joined-none, joined-more, xor-zero, xor_same}
+use Rattle.span.proofs.Joining.{Joined}
 use Rattle.span.proofs.same.Given as goal
 
 -- the bytes i of both spans agree

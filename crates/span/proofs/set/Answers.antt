@@ -1,10 +1,6 @@
 -- `set` tests that the span lies inside and writes byte after byte: those below i are v, all others kept.
 use mathlib.Core.Path.{◌≡◌, refl}
-use Prim.Native.Nat.{◌+◌, ◌-◌, ◌≤◌}
 use native.Mathlib.Omega.{arith}
-use lib.ListN.{length}
-use borrow.Author.Rules.{rules}
-use Rattle.span.specs.Span.{SetTo}
 use Rattle.span.proofs.Decision.{decides-false, decides-true, cases_done, cases-refused}
 use Rattle.span.proofs.Setting.{set-none, set_more}
 use Rattle.span.proofs.set.Goals as goal

@@ -1,9 +1,6 @@
 -- `strip` copies four pieces, to the slice and to the array that it answers.
 use mathlib.Core.Path.{◌≡◌, refl, sym, ◌∙◌}
-use Prim.Native.Nat.{◌-◌, ◌%◌, ◌≤◌}
 use native.Mathlib.Omega.{arith}
-use lib.ListN.{length}
-use Rattle.span.specs.Span.{Copied}
 use Rattle.span.proofs.Copying.{copied_none, copied-piece, copied-longer}
 use Rattle.span.proofs.strip.Goals as goal
 

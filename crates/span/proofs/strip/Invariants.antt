@@ -1,10 +1,8 @@
 -- `strip` copies four pieces, to the slice and to the array that it answers.
-use mathlib.Core.Path.{◌≡◌, refl, sym, ◌∙◌}
+use mathlib.Core.Path.{◌≡◌}
 use Prim.Native.Nat.{◌-◌, ◌%◌, ◌≤◌}
-use native.Mathlib.Omega.{arith}
 use lib.ListN.{length}
 use Rattle.span.specs.Span.{Copied}
-use Rattle.span.proofs.Copying.{copied_none, copied-piece, copied-longer}
 use Rattle.span.proofs.strip.Given as goal
 
 abbrev pub invariant-loop-i : goal.invariant-loop-i

@@ -1,13 +1,8 @@
 -- `zeros` joins the bytes in one, which is 00h exactly when all are.
 use mathlib.Core.Path.{◌≡◌}
-use mathlib.Core.List.{List}
-use Prim.Native.Nat.{ℕ, ◌+◌, ◌-◌, ◌≤◌}
 use native.Mathlib.Omega.{arith}
-use lib.ListN.{length, get_or}
-use borrow.Author.Rules.{rules}
 use Rattle.span.proofs.Decision.{decides-no, decides_eq, decides-false, decides-true}
-use Rattle.span.proofs.Joining.{Joined, joined-none, joined-more}
-use Rattle.span.proofs.zeros.Invariants.{Zero}
+use Rattle.span.proofs.Joining.{joined-none, joined-more}
 use Rattle.span.proofs.zeros.Goals as goal
 
 pub returns-then-not-inside : goal.returns-then-not-inside

@@ -2,11 +2,8 @@
 use mathlib.Core.Path.{◌≡◌}
 use mathlib.Core.List.{List}
 use Prim.Native.Nat.{ℕ, ◌+◌, ◌-◌, ◌≤◌}
-use native.Mathlib.Omega.{arith}
 use lib.ListN.{length, get_or}
-use borrow.Author.Rules.{rules}
-use Rattle.span.proofs.Decision.{decides-no, decides_eq, decides-false, decides-true}
-use Rattle.span.proofs.Joining.{Joined, joined-none, joined-more}
+use Rattle.span.proofs.Joining.{Joined}
 use Rattle.span.proofs.zeros.Given as goal
 
 -- byte i of the span is 00h

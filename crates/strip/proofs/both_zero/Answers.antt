@@ -1,10 +1,8 @@
 -- `strip::both_zero` decides whether two strips are 00h: an or is 0 exactly when both sides are.
 use mathlib.Core.Path.{◌≡◌}
-use Prim.Native.Nat.{◌-◌, ◌≤◌}
 use native.Mathlib.Omega.{arith}
-use lib.ListN.{get_or}
 use Rattle.span.proofs.Decision.{decides_eq}
-use Rattle.span.proofs.Joining.{Joined, joined-none, joined-more, or-zero}
+use Rattle.span.proofs.Joining.{joined-none, joined-more, or-zero}
 use Rattle.strip.proofs.both_zero.Goals as goal
 
 pub loop-t-init : goal.loop-t-init

@@ -1,11 +1,9 @@
 -- `strip::both_zero_below` decides whether the first n bytes of two strips are 00h: a byte behind them counts as 00h.
 use mathlib.Core.Path.{◌≡◌, sym, ◌∙◌}
 use mathlib.Core.Logic.{⊎_elim}
-use Prim.Native.Nat.{◌-◌, ◌≤◌, ◌<◌}
 use native.Mathlib.Omega.{arith}
-use lib.ListN.{get_or}
 use Rattle.span.proofs.Decision.{decides_eq}
-use Rattle.span.proofs.Joining.{Joined, joined-none, joined-more, or-zero}
+use Rattle.span.proofs.Joining.{joined-none, joined-more, or-zero}
 use Rattle.strip.proofs.both_zero_below.Goals as goal
 
 pub loop-t-init : goal.loop-t-init

@@ -1,10 +1,7 @@
 -- `strip::products` computes the byte at the later erasure of each line.
-use mathlib.Core.Path.{◌≡◌, refl, ◌∙◌}
-use Prim.Native.Nat.{◌-◌, ◌≤◌}
+use mathlib.Core.Path.{refl, ◌∙◌}
 use native.Mathlib.Omega.{arith}
-use lib.ListN.{length, get_or}
-use Rattle.field.specs.Field.{add, mul}
-use Rattle.strip.proofs.Updated.{Updated, updated_none, updated-more}
+use Rattle.strip.proofs.Updated.{updated_none, updated-more}
 use Rattle.strip.proofs.products.Goals as goal
 
 pub loop-t-init : goal.loop-t-init

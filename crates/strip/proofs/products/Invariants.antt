@@ -1,10 +1,9 @@
 -- `strip::products` computes the byte at the later erasure of each line.
-use mathlib.Core.Path.{◌≡◌, refl, ◌∙◌}
+use mathlib.Core.Path.{◌≡◌}
 use Prim.Native.Nat.{◌-◌, ◌≤◌}
-use native.Mathlib.Omega.{arith}
 use lib.ListN.{length, get_or}
 use Rattle.field.specs.Field.{add, mul}
-use Rattle.strip.proofs.Updated.{Updated, updated_none, updated-more}
+use Rattle.strip.proofs.Updated.{Updated}
 use Rattle.strip.proofs.products.Given as goal
 
 abbrev pub invariant-loop-t : goal.invariant-loop-t

@@ -1,10 +1,9 @@
 -- `strip::step` takes one of Horner's steps for 64 lines.
-use mathlib.Core.Path.{◌≡◌, refl}
-use Prim.Native.Nat.{◌-◌, ◌≤◌}
+use mathlib.Core.Path.{refl}
 use native.Mathlib.Omega.{arith}
-use lib.ListN.{length, length-set, get_or}
-use Rattle.field.specs.Field.{add, xtime}
-use Rattle.strip.proofs.Updated.{Updated, updated_none, updated-more}
+use lib.ListN.{length-set}
+use Rattle.field.specs.Field.{add}
+use Rattle.strip.proofs.Updated.{updated_none, updated-more}
 use Rattle.strip.proofs.step.Goals as goal
 
 pub loop-t-init : goal.loop-t-init

@@ -1,10 +1,9 @@
 -- `strip::step` takes one of Horner's steps for 64 lines.
-use mathlib.Core.Path.{◌≡◌, refl}
+use mathlib.Core.Path.{◌≡◌}
 use Prim.Native.Nat.{◌-◌, ◌≤◌}
-use native.Mathlib.Omega.{arith}
-use lib.ListN.{length, length-set, get_or}
+use lib.ListN.{length, get_or}
 use Rattle.field.specs.Field.{add, xtime}
-use Rattle.strip.proofs.Updated.{Updated, updated_none, updated-more}
+use Rattle.strip.proofs.Updated.{Updated}
 use Rattle.strip.proofs.step.Given as goal
 
 abbrev pub invariant-loop-t : goal.invariant-loop-t

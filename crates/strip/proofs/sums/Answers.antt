@@ -1,10 +1,8 @@
 -- `strip::sums` adds two arrays byte by byte.
-use mathlib.Core.Path.{◌≡◌, refl, ◌∙◌}
-use Prim.Native.Nat.{◌-◌, ◌≤◌}
+use mathlib.Core.Path.{refl, ◌∙◌}
 use native.Mathlib.Omega.{arith}
-use lib.ListN.{length, get_or}
 use Rattle.field.specs.Field.{add}
-use Rattle.strip.proofs.Updated.{Updated, updated_none, updated-more}
+use Rattle.strip.proofs.Updated.{updated_none, updated-more}
 use Rattle.strip.proofs.sums.Goals as goal
 
 pub loop-t-init : goal.loop-t-init

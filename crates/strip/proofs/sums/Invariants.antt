@@ -1,10 +1,9 @@
 -- `strip::sums` adds two arrays byte by byte.
-use mathlib.Core.Path.{◌≡◌, refl, ◌∙◌}
+use mathlib.Core.Path.{◌≡◌}
 use Prim.Native.Nat.{◌-◌, ◌≤◌}
-use native.Mathlib.Omega.{arith}
 use lib.ListN.{length, get_or}
 use Rattle.field.specs.Field.{add}
-use Rattle.strip.proofs.Updated.{Updated, updated_none, updated-more}
+use Rattle.strip.proofs.Updated.{Updated}
 use Rattle.strip.proofs.sums.Given as goal
 
 abbrev pub invariant-loop-t : goal.invariant-loop-t

@@ -1,7 +1,6 @@
 -- `cursor::Cursor::bytes` meets its contract. Assumes nothing.
 use native.Mathlib.Omega.{arith}
 use Rattle.cursor.proofs.Steps.{cut-bytes, whole-bytes}
-use borrow.Author.Rules.{rules}
 use Rattle.cursor.proofs.Cursor.bytes.Goals as goal
 
 pub returns-then-len-n : goal.returns-then-len-n

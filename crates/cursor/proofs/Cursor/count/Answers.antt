@@ -1,7 +1,6 @@
 -- `cursor::Cursor::count` meets its contract. Assumes nothing.
 use native.Mathlib.Omega.{arith}
 use Rattle.cursor.proofs.Steps.{cut-count, whole-count}
-use borrow.Author.Rules.{rules}
 use Rattle.cursor.proofs.Cursor.count.Goals as goal
 
 pub returns-then-len-lt4 : goal.returns-then-len-lt4

@@ -1,10 +1,8 @@
 -- `shape::flags::none_missing` meets its contract. The invariant: what was joined and what is left decide. Assumes nothing.
-use mathlib.Core.Path.{◌≡◌, refl, sym, ◌∙◌}
+use mathlib.Core.Path.{refl, sym, ◌∙◌}
 use mathlib.Core.Bool.{not}
-use Prim.Native.Nat.{◌≤◌, ◌-◌}
 use native.Mathlib.Omega.{arith}
 use lib.Dec.{eqb}
-use lib.ListN.{length, drop}
 use Rattle.shape.specs.Shapes.{both}
 use Rattle.shape.specs.Flags.{none_missing}
 use Rattle.shape.proofs.Scan.{or-mark, scan-joined, scan-ended}

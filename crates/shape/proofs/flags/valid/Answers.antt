@@ -1,9 +1,7 @@
 -- `shape::flags::valid` meets its contract. The invariant: what was joined and what is left decide. Assumes nothing.
-use mathlib.Core.Path.{◌≡◌, refl, sym, ◌∙◌}
-use Prim.Native.Nat.{◌≤◌, ◌-◌}
+use mathlib.Core.Path.{refl, sym, ◌∙◌}
 use native.Mathlib.Omega.{arith}
-use lib.Dec.{eqb, leb}
-use lib.ListN.{length, drop}
+use lib.Dec.{leb}
 use Rattle.shape.specs.Shapes.{both}
 use Rattle.shape.specs.Flags.{flags_valid}
 use Rattle.shape.proofs.Scan.{or-high, scan-joined, scan-ended}

@@ -1,12 +1,10 @@
 -- `shape::flags::valid` meets its contract. The invariant: what was joined and what is left decide. Assumes nothing.
-use mathlib.Core.Path.{◌≡◌, refl, sym, ◌∙◌}
+use mathlib.Core.Path.{◌≡◌}
 use Prim.Native.Nat.{◌≤◌, ◌-◌}
-use native.Mathlib.Omega.{arith}
-use lib.Dec.{eqb, leb}
+use lib.Dec.{eqb}
 use lib.ListN.{length, drop}
 use Rattle.shape.specs.Shapes.{both}
 use Rattle.shape.specs.Flags.{flags_valid}
-use Rattle.shape.proofs.Scan.{or-high, scan-joined, scan-ended}
 use Rattle.shape.proofs.flags.valid.Given as goal
 
 abbrev pub invariant-loop-n : goal.invariant-loop-n
