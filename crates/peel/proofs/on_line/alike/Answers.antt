@@ -22,7 +22,7 @@ pub loop-n-preserved : goal.loop-n-preserved
 loop-n-preserved c = (
   omega arith,
   omega arith,
-  alike-more c.loop-n.invariant.2 (c.scan_line-s.ensures.done (c.requires.by_index c.loop-n.n (omega arith))).0 c.if-s-e.false (eqb-true _ _ c.if-s-e-2.false) (eqb-true _ _ c.if-s-e-3.false),
+  alike-more c.loop-n.invariant.2 (c.scan_line-s.ensures.done (c.requires.by_index c.loop-n.n (omega arith))).0 c.if-s-e.false c.if-s-e-2.false c.if-s-e-3.false,
 )
 
 pub returns : goal.returns

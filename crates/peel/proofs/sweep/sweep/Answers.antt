@@ -38,7 +38,7 @@ group-filled-requires c = record {
     }
 
 pub overflow_add-filled : goal.overflow_add-filled
-overflow_add-filled c = omega (arith, filled-le (swept-group _ (swept (goal.at.overflow_add-filled c).After-next_awake-g) c.group-filled.ensures.0), c.requires.sized.flags)
+overflow_add-filled c = omega (arith, filled-le (swept-group _ (swept (goal.at.overflow_add-filled c).After-next_awake-g) c.group-filled.ensures.filled), c.requires.sized.flags)
 
 pub overflow_add-g : goal.overflow_add-g
 overflow_add-g c = omega (arith, c.next_awake-g.ensures.1, c.groups-groups.ensures.1)
@@ -49,6 +49,6 @@ loop-g-smaller c = omega (arith, c.next_awake-g.ensures.0, c.next_awake-g.ensure
 pub loop-g-preserved : goal.loop-g-preserved
 loop-g-preserved c = (
   omega (arith, c.next_awake-g.ensures.1),
-  c.group-filled.ensures.1,
-  swept-group _ (swept (goal.at.loop-g-preserved c).After-next_awake-g) c.group-filled.ensures.0,
+  c.group-filled.ensures.calm_2,
+  swept-group _ (swept (goal.at.loop-g-preserved c).After-next_awake-g) c.group-filled.ensures.filled,
 )

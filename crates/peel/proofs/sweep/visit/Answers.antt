@@ -34,6 +34,6 @@ fill_lines-requires c =
 
 pub returns : goal.returns
 returns c = record {
-      le_lines = (c.fill_lines.ensures.0.0, omega (arith, c.fill_lines.ensures.0.1, c.beside.ensures.1));
-      visited = visited-lines _ _ (found (goal.at.returns c).In-Found) (omega (arith, c.fill_lines.ensures.0.1, c.beside.ensures.2)) c.fill_lines.ensures.1;
+      le_lines = (c.fill_lines.ensures.le_lines.0, omega (arith, c.fill_lines.ensures.le_lines.1, c.beside.ensures.1));
+      visited = visited-lines _ _ (found (goal.at.returns c).In-Found) (omega (arith, c.fill_lines.ensures.le_lines.1, c.beside.ensures.2)) c.fill_lines.ensures.lines_visited;
     }
