@@ -1,6 +1,5 @@
 -- `peel::peel` starts its sweeps with no line quiet, where cube and flags have the lengths of a valid shape.
 use mathlib.Core.Path.{refl}
-use borrow.Author.Rules.{rules}
 use Rattle.span.proofs.Decision.{decides-false, decides-true, cases_done, cases-refused}
 use Rattle.peel.specs.Peel.{Sized}
 use Rattle.peel.proofs.Awake.{calm-first}
@@ -15,9 +14,9 @@ returns-then-not-fits c = cases-refused (decides-false c.fits.ensures c.if-not-f
 
 pub sweeps-requires : goal.sweeps-requires
 sweeps-requires c = record {
-      sized = sized (goal.at.sweeps-requires c).Else-not-fits;
-      calm = calm-first _ _;
-    }
+  sized = sized (goal.at.sweeps-requires c).Else-not-fits;
+  calm = calm-first _ _;
+}
 
 pub returns : goal.returns
 returns c = cases_done (sized (goal.at.returns c).Else-not-fits) (refl, c.sweeps.ensures)

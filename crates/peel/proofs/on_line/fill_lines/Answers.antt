@@ -3,8 +3,6 @@
 use mathlib.Core.Logic.{inl, inr, ⊎_elim}
 use Prim.Native.Nat.{◌*◌, ◌≤◌}
 use native.Mathlib.Omega.{arith}
-use borrow.Author.Rules.{rules}
-use borrow.Author.Tests.{ltb-true, ltb-false}
 use Rattle.shape.specs.Flags.{missing}
 use Rattle.erasures.specs.Erasures.{Scanned}
 use Rattle.erasures.proofs.Inside.{line-places}
@@ -44,39 +42,39 @@ filled c =
 
 pub returns-then-count-eq0 : goal.returns-then-count-eq0
 returns-then-count-eq0 c = record {
-      le_lines = (omega arith, c.requires.neighbours.some);
-      lines_visited = line-left _ _ _ _ _ _
+  le_lines = (omega arith, c.requires.neighbours.some);
+  lines_visited = line-left _ _ _ _ _ _
       (⊎_elim (λ w. inl (omega (arith, (scanned (goal.at.returns-then-count-eq0 c).After-scan_line-e).number, w)))
       (λ w. inr (omega (arith, (scanned (goal.at.returns-then-count-eq0 c).After-scan_line-e).number, w.1))) c.then-count-eq0.either);
-    }
+}
 
 pub alike-n-requires : goal.alike-n-requires
 alike-n-requires c = record {
-      le_most = (c.requires.neighbours.some, some (goal.at.alike-n-requires c).Else-count-gt2, few (goal.at.alike-n-requires c).Else-count-gt2);
-      by_index = λ q h. line-places _ _ _ _ _ c.requires.sized.valid c.requires.sized.flags (c.requires.neighbours.each q h);
-      scanned = scanned (goal.at.alike-n-requires c).After-scan_line-e;
-    }
+  le_most = (c.requires.neighbours.some, some (goal.at.alike-n-requires c).Else-count-gt2, few (goal.at.alike-n-requires c).Else-count-gt2);
+  by_index = λ q h. line-places _ _ _ _ _ c.requires.sized.valid c.requires.sized.flags (c.requires.neighbours.each q h);
+  scanned = scanned (goal.at.alike-n-requires c).After-scan_line-e;
+}
 
 pub recover-requires : goal.recover-requires
 recover-requires c = record {
-      valid = (c.requires.sized.valid, c.requires.sized.bytes);
-      neighbours = beside (goal.at.recover-requires c).After-alike-n;
-      first_le_last = (scanned-order _ _ _ _ _ _ _ (scanned (goal.at.recover-requires c).After-scan_line-e) (some (goal.at.recover-requires c).Else-count-gt2), (scanned (goal.at.recover-requires c).After-scan_line-e).bound (some (goal.at.recover-requires c).Else-count-gt2));
-    }
+  valid = (c.requires.sized.valid, c.requires.sized.bytes);
+  neighbours = beside (goal.at.recover-requires c).After-alike-n;
+  first_le_last = (scanned-order _ _ _ _ _ _ _ (scanned (goal.at.recover-requires c).After-scan_line-e) (some (goal.at.recover-requires c).Else-count-gt2), (scanned (goal.at.recover-requires c).After-scan_line-e).bound (some (goal.at.recover-requires c).Else-count-gt2));
+}
 
 pub flag_holes-requires : goal.flag_holes-requires
 flag_holes-requires c = record {
-      valid = (c.requires.sized.valid, c.requires.sized.flags, c.requires.marks_len);
-      neighbours = beside (goal.at.flag_holes-requires c).After-alike-n;
-      first_le_last = (scanned-order _ _ _ _ _ _ _ (scanned (goal.at.flag_holes-requires c).After-scan_line-e) (some (goal.at.flag_holes-requires c).Else-count-gt2), (scanned (goal.at.flag_holes-requires c).After-scan_line-e).bound (some (goal.at.flag_holes-requires c).Else-count-gt2));
-    }
+  valid = (c.requires.sized.valid, c.requires.sized.flags, c.requires.marks_len);
+  neighbours = beside (goal.at.flag_holes-requires c).After-alike-n;
+  first_le_last = (scanned-order _ _ _ _ _ _ _ (scanned (goal.at.flag_holes-requires c).After-scan_line-e) (some (goal.at.flag_holes-requires c).Else-count-gt2), (scanned (goal.at.flag_holes-requires c).After-scan_line-e).bound (some (goal.at.flag_holes-requires c).Else-count-gt2));
+}
 
 pub overflow_mul-result : goal.overflow_mul-result
 overflow_mul-result c = omega (arith, filled-le (filled (goal.at.overflow_mul-result c).After-flag_holes), c.requires.sized.flags)
 
 pub returns : goal.returns
 returns c = record {
-      le_lines = (c.alike-n.ensures.0, c.alike-n.ensures.1);
-      lines_visited = lines-recovered (filled (goal.at.returns c).After-flag_holes)
+  le_lines = (c.alike-n.ensures.0, c.alike-n.ensures.1);
+  lines_visited = lines-recovered (filled (goal.at.returns c).After-flag_holes)
       (lines-stop _ _ _ _ _ _ c.requires.sized _ _ _ _ _ _ _ (beside (goal.at.returns c).After-alike-n) c.alike-n.ensures.2 c.flag_holes.ensures) c.flag_holes.ensures;
-    }
+}

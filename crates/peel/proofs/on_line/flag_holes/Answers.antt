@@ -1,11 +1,10 @@
 -- `peel::on_line::flag_holes` gives the missing cells of neighbouring lines flag 3, line after line.
 use mathlib.Core.Path.{◌≡◌, ap, ◌∙◌}
-use Prim.Native.Nat.{◌+◌, ◌-◌, ◌*◌, ◌≤◌, ◌<◌}
+use Prim.Native.Nat.{◌+◌, ◌*◌, ◌<◌}
 use native.Mathlib.Omega.{arith}
 use lib.ListN.{length, length-set}
 use Rattle.shape.specs.Shapes.{cells}
 use Rattle.shape.proofs.Geometry.{line-cell-lt}
-use Rattle.peel.specs.Inner.OnLine.{Flagged}
 use Rattle.peel.proofs.Visiting.{flagged-none, flagged-more}
 use Rattle.peel.proofs.on_line.flag_holes.Goals as goal
 use Rattle.peel.proofs.on_line.flag_holes.Goals.{In-loop-q}

@@ -3,7 +3,6 @@ use native.Mathlib.Omega.{arith}
 use lib.ListN.{length-set}
 use Rattle.peel.specs.Inner.Wake.{mark_at}
 use Rattle.peel.proofs.Visiting.{group-calm, group-filled}
-use borrow.Author.Rules.{rules}
 use Rattle.peel.proofs.sweep.group.Goals as goal
 
 pub wide-mark-requires : goal.wide-mark-requires

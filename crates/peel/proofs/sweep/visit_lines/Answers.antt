@@ -1,6 +1,6 @@
 -- `peel::sweep::visit_lines` visits lines of an axis, some of them side by side at once.
 use mathlib.Core.Path.{◌∙◌}
-use Prim.Native.Nat.{◌+◌, ◌-◌, ◌≤◌}
+use Prim.Native.Nat.{◌+◌}
 use native.Mathlib.Omega.{arith}
 use Rattle.field.specs.Field.{reduction}
 use Rattle.peel.specs.Inner.Sweep.{Visited}
@@ -21,9 +21,9 @@ loop-m-init c = (omega arith, visited-none _ _ _ _)
 
 pub visit-step-requires : goal.visit-step-requires
 visit-step-requires c = record {
-      sized = reaches-sized c.requires.sized c.loop-m.invariant.1.filled.reaches;
-      le_axis = (c.requires.le_axis.0, c.requires.le_axis.1, omega arith, c.loop-m.invariant.1.keeps.size ∙ c.requires.le_axis.3);
-    }
+  sized = reaches-sized c.requires.sized c.loop-m.invariant.1.filled.reaches;
+  le_axis = (c.requires.le_axis.0, c.requires.le_axis.1, omega arith, c.loop-m.invariant.1.keeps.size ∙ c.requires.le_axis.3);
+}
 
 pub overflow_add-filled : goal.overflow_add-filled
 overflow_add-filled c = omega (arith, filled-le (visited (goal.at.overflow_add-filled c).After-visit-step).filled, c.requires.sized.flags)
