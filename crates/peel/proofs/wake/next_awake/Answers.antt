@@ -7,10 +7,7 @@ pub loop-g-init : goal.loop-g-init
 loop-g-init c = c.past_quiet-g.ensures
 
 pub loop-g-preserved : goal.loop-g-preserved
-loop-g-preserved c = (omega arith, omega arith, quiet_next c.loop-g.invariant.2 c.if-marks-base-eq-QUIET.true)
-
-pub returns-else-marks-base-eq-QUIET : goal.returns-else-marks-base-eq-QUIET
-returns-else-marks-base-eq-QUIET c = c.loop-g.invariant
+loop-g-preserved c = (omega arith, omega arith, quiet_next c.loop-g.invariant.2 (omega arith))
 
 pub returns-after-loop-g : goal.returns-after-loop-g
 returns-after-loop-g c = c.loop-g.invariant
