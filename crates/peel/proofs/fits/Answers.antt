@@ -1,6 +1,5 @@
 -- `peel::fits` tells whether cube and flags have the lengths of a valid shape.
 use mathlib.Core.Path.{◌≡◌}
-use borrow.Author.Rules.{rules}
 use Rattle.answer.specs.Values.{passes}
 use Rattle.shape.specs.Shapes.{shape_checked}
 use Rattle.shape.proofs.Valid.{measure-fits}

@@ -1,10 +1,5 @@
 -- `peel::on_line::alike` counts neighbouring lines that miss the same places.
-use Prim.Native.Nat.{◌-◌, ◌≤◌}
 use native.Mathlib.Omega.{arith}
-use borrow.Author.Rules.{rules}
-use borrow.Author.Tests.{eqb-true, not-false}
-use Rattle.shape.specs.Flags.{missing}
-use Rattle.peel.specs.Inner.OnLine.{Alike}
 use Rattle.peel.proofs.Lines.{alike-one, alike-more}
 use Rattle.peel.proofs.on_line.alike.Goals as goal
 
@@ -22,7 +17,7 @@ pub loop-n-preserved : goal.loop-n-preserved
 loop-n-preserved c = (
   omega arith,
   omega arith,
-  alike-more c.loop-n.invariant.2 (c.scan_line-s.ensures.done (c.requires.by_index c.loop-n.n (omega arith))).0 c.if-s-e.false (eqb-true _ _ c.if-s-e-2.false) (eqb-true _ _ c.if-s-e-3.false),
+  alike-more c.loop-n.invariant.2 (c.scan_line-s.ensures.done (c.requires.by_index c.loop-n.n (omega arith))).0 c.if-s-e.false c.if-s-e-2.false c.if-s-e-3.false,
 )
 
 pub returns : goal.returns

@@ -1,11 +1,7 @@
 -- `peel::on_line::alike` counts neighbouring lines that miss the same places.
 use Prim.Native.Nat.{◌-◌, ◌≤◌}
-use native.Mathlib.Omega.{arith}
-use borrow.Author.Rules.{rules}
-use borrow.Author.Tests.{eqb-true, not-false}
 use Rattle.shape.specs.Flags.{missing}
 use Rattle.peel.specs.Inner.OnLine.{Alike}
-use Rattle.peel.proofs.Lines.{alike-one, alike-more}
 use Rattle.peel.proofs.on_line.alike.Given as goal
 
 abbrev pub invariant-loop-n : goal.invariant-loop-n

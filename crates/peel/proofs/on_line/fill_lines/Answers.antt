@@ -3,8 +3,6 @@
 use mathlib.Core.Logic.{inl, inr, ⊎_elim}
 use Prim.Native.Nat.{◌*◌, ◌≤◌}
 use native.Mathlib.Omega.{arith}
-use borrow.Author.Rules.{rules}
-use borrow.Author.Tests.{ltb-true, ltb-false}
 use Rattle.shape.specs.Flags.{missing}
 use Rattle.erasures.specs.Erasures.{Scanned}
 use Rattle.erasures.proofs.Inside.{line-places}
@@ -18,12 +16,12 @@ use Rattle.peel.proofs.Reaching.{filled-le}
 use Rattle.peel.proofs.Together.{lines-filled, lines-stop}
 use Rattle.peel.proofs.Visiting.{lines-recovered, line-left}
 use Rattle.peel.proofs.on_line.fill_lines.Goals as goal
-use Rattle.peel.proofs.on_line.fill_lines.Goals.{After-alike-n, After-flag_holes, After-scan_line-e, After-slice_known-2-1, Else-count-eq0, Else-count-gt2}
+use Rattle.peel.proofs.on_line.fill_lines.Goals.{After-alike-n, After-flag_holes, After-scan_line-e, Else-count-gt2}
 
 scanned : (c : After-scan_line-e) → Scanned (missing c.args.flags.now) c.args.line.first c.args.line.stride c.args.line.len c.scan_line-e.result.count c.scan_line-e.result.first c.scan_line-e.result.last
 scanned c =
     let pre = c.requires in
-    (c.scan_line-e.ensures.done (line-places _ _ _ _ _ pre.0.valid pre.0.flags (neighbours-first pre.1.0))).0
+    (c.scan_line-e.ensures.done (line-places _ _ _ _ _ pre.sized.valid pre.sized.flags (neighbours-first pre.neighbours))).0
 
 some : (c : Else-count-gt2) → 1 ≤ c.scan_line-e.result.count
 some c = omega (arith, c.if-count-eq0.false)
@@ -39,44 +37,44 @@ filled :
     Filled reduction c.args.sh (AllStop c.args.line.first c.args.line.stride c.args.line.len c.alike-n.result)
     c.args.cube.now c.args.flags.now c.recover.new.cube c.flag_holes.new.flags (c.scan_line-e.result.count * c.alike-n.result)
 filled c =
-    lines-filled _ _ _ _ _ _ c.requires.sized _ _ _ _ _ _ _ (beside c.before.before.before.before.before.before.before) c.alike-n.ensures.2 c.flag_holes.ensures _ primitive _
-    (λ p. omega (arith, c.before.before.before.before.before.before.before.before.before.before.before.before.before.before.slice-known.given p)) c.recover.ensures
+    lines-filled _ _ _ _ _ _ c.requires.sized _ _ _ _ _ _ _ (neighbours-fewer c.requires.neighbours c.alike-n.ensures.0 c.alike-n.ensures.1) c.alike-n.ensures.2 c.flag_holes.ensures _ primitive _
+    (λ p. omega (arith, c.slice_known-1.given p)) c.recover.ensures
 
 pub returns-then-count-eq0 : goal.returns-then-count-eq0
 returns-then-count-eq0 c = record {
-      le_lines = (omega arith, c.requires.neighbours.some);
-      lines_visited = line-left _ _ _ _ _ _
-      (⊎_elim (λ w. inl (omega (arith, (scanned (goal.at.returns-then-count-eq0 c).After-scan_line-e).number, w.taken)))
-      (λ w. inr (omega (arith, (scanned (goal.at.returns-then-count-eq0 c).After-scan_line-e).number, ltb-true 2 c.scan_line-e.result.count w.1.taken))) c.then-count-eq0.branch);
-    }
+  le_lines = (omega arith, c.requires.neighbours.some);
+  lines_visited = line-left _ _ _ _ _ _
+      (⊎_elim (λ w. inl (omega (arith, (scanned (goal.at.returns-then-count-eq0 c).After-scan_line-e).number, w)))
+      (λ w. inr (omega (arith, (scanned (goal.at.returns-then-count-eq0 c).After-scan_line-e).number, w.1))) c.then-count-eq0.either);
+}
 
 pub alike-n-requires : goal.alike-n-requires
 alike-n-requires c = record {
-      le_most = (c.requires.neighbours.some, some (goal.at.alike-n-requires c).Else-count-eq0, few (goal.at.alike-n-requires c).Else-count-eq0);
-      by_index = λ q h. line-places _ _ _ _ _ c.requires.sized.valid c.requires.sized.flags (c.requires.neighbours.each q h);
-      scanned = scanned (goal.at.alike-n-requires c).After-slice_known-2-1;
-    }
+  le_most = (c.requires.neighbours.some, some (goal.at.alike-n-requires c).Else-count-gt2, few (goal.at.alike-n-requires c).Else-count-gt2);
+  by_index = λ q h. line-places _ _ _ _ _ c.requires.sized.valid c.requires.sized.flags (c.requires.neighbours.each q h);
+  scanned = scanned (goal.at.alike-n-requires c).After-scan_line-e;
+}
 
 pub recover-requires : goal.recover-requires
 recover-requires c = record {
-      valid = (c.requires.sized.valid, c.requires.sized.bytes);
-      neighbours = beside (goal.at.recover-requires c).After-alike-n;
-      first_le_last = (scanned-order _ _ _ _ _ _ _ (scanned (goal.at.recover-requires c).After-slice_known-2-1) (some (goal.at.recover-requires c).Else-count-eq0), (scanned (goal.at.recover-requires c).After-slice_known-2-1).bound (some (goal.at.recover-requires c).Else-count-eq0));
-    }
+  valid = (c.requires.sized.valid, c.requires.sized.bytes);
+  neighbours = beside (goal.at.recover-requires c).After-alike-n;
+  first_le_last = (scanned-order _ _ _ _ _ _ _ (scanned (goal.at.recover-requires c).After-scan_line-e) (some (goal.at.recover-requires c).Else-count-gt2), (scanned (goal.at.recover-requires c).After-scan_line-e).bound (some (goal.at.recover-requires c).Else-count-gt2));
+}
 
 pub flag_holes-requires : goal.flag_holes-requires
 flag_holes-requires c = record {
-      valid = (c.requires.sized.valid, c.requires.sized.flags, c.requires.marks_len);
-      neighbours = beside (goal.at.flag_holes-requires c).After-alike-n;
-      first_le_last = (scanned-order _ _ _ _ _ _ _ (scanned (goal.at.flag_holes-requires c).After-slice_known-2-1) (some (goal.at.flag_holes-requires c).Else-count-eq0), (scanned (goal.at.flag_holes-requires c).After-slice_known-2-1).bound (some (goal.at.flag_holes-requires c).Else-count-eq0));
-    }
+  valid = (c.requires.sized.valid, c.requires.sized.flags, c.requires.marks_len);
+  neighbours = beside (goal.at.flag_holes-requires c).After-alike-n;
+  first_le_last = (scanned-order _ _ _ _ _ _ _ (scanned (goal.at.flag_holes-requires c).After-scan_line-e) (some (goal.at.flag_holes-requires c).Else-count-gt2), (scanned (goal.at.flag_holes-requires c).After-scan_line-e).bound (some (goal.at.flag_holes-requires c).Else-count-gt2));
+}
 
 pub overflow_mul-result : goal.overflow_mul-result
 overflow_mul-result c = omega (arith, filled-le (filled (goal.at.overflow_mul-result c).After-flag_holes), c.requires.sized.flags)
 
 pub returns : goal.returns
 returns c = record {
-      le_lines = (c.alike-n.ensures.0, c.alike-n.ensures.1);
-      lines_visited = lines-recovered (filled (goal.at.returns c).After-flag_holes)
+  le_lines = (c.alike-n.ensures.0, c.alike-n.ensures.1);
+  lines_visited = lines-recovered (filled (goal.at.returns c).After-flag_holes)
       (lines-stop _ _ _ _ _ _ c.requires.sized _ _ _ _ _ _ _ (beside (goal.at.returns c).After-alike-n) c.alike-n.ensures.2 c.flag_holes.ensures) c.flag_holes.ensures;
-    }
+}

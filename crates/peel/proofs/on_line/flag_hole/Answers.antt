@@ -1,7 +1,5 @@
 -- `peel::on_line::flag_hole` gives a cell flag 3 and wakes the lines through it.
 use mathlib.Core.Path.{refl}
-use native.Mathlib.Omega.{arith}
-use borrow.Author.Rules.{rules}
 use Rattle.peel.proofs.on_line.flag_hole.Goals as goal
 
 pub wake-requires : goal.wake-requires
@@ -9,6 +7,6 @@ wake-requires c = (c.requires.0, c.requires.1, c.requires.3)
 
 pub returns : goal.returns
 returns c = record {
-      flags_after = refl;
-      woken = c.wake.ensures;
-    }
+  flags_after = refl;
+  woken = c.wake.ensures;
+}

@@ -1,11 +1,10 @@
 -- `peel::on_line::flag_holes` gives the missing cells of neighbouring lines flag 3, line after line.
 use mathlib.Core.Path.{◌≡◌, ap, ◌∙◌}
-use Prim.Native.Nat.{◌+◌, ◌-◌, ◌*◌, ◌≤◌, ◌<◌}
+use Prim.Native.Nat.{◌+◌, ◌*◌, ◌<◌}
 use native.Mathlib.Omega.{arith}
 use lib.ListN.{length, length-set}
 use Rattle.shape.specs.Shapes.{cells}
 use Rattle.shape.proofs.Geometry.{line-cell-lt}
-use Rattle.peel.specs.Inner.OnLine.{Flagged}
 use Rattle.peel.proofs.Visiting.{flagged-none, flagged-more}
 use Rattle.peel.proofs.on_line.flag_holes.Goals as goal
 use Rattle.peel.proofs.on_line.flag_holes.Goals.{In-loop-q}
@@ -51,8 +50,8 @@ pub flag_hole-requires-in-loop-q : goal.flag_hole-requires-in-loop-q
 flag_hole-requires-in-loop-q c = (
   c.requires.valid.0,
   last-cell (goal.at.flag_hole-requires-in-loop-q c).In-loop-q,
-  ap length c.flag_hole.ensures.0 ∙ simp length-set (flags_size (goal.at.flag_hole-requires-in-loop-q c).In-loop-q),
-  c.flag_hole.ensures.1.size ∙ c.loop-q.invariant.1.size ∙ c.requires.valid.2,
+  ap length c.flag_hole.ensures.flags_after ∙ simp length-set (flags_size (goal.at.flag_hole-requires-in-loop-q c).In-loop-q),
+  c.flag_hole.ensures.woken.size ∙ c.loop-q.invariant.1.size ∙ c.requires.valid.2,
 )
 
 pub overflow_add-q : goal.overflow_add-q
@@ -62,8 +61,8 @@ pub loop-q-preserved : goal.loop-q-preserved
 loop-q-preserved c = (
   omega arith,
   flagged-more c.loop-q.invariant.1 (omega (arith, first_cell (goal.at.loop-q-preserved c).In-loop-q, flags_size (goal.at.loop-q-preserved c).In-loop-q)) (omega (arith, last-cell (goal.at.loop-q-preserved c).In-loop-q, flags_size (goal.at.loop-q-preserved c).In-loop-q))
-      c.flag_hole.ensures.1 c.flag_hole-in-loop-q.ensures.1
-      c.flag_hole.ensures.0 c.flag_hole-in-loop-q.ensures.0,
+      c.flag_hole.ensures.woken c.flag_hole-in-loop-q.ensures.woken
+      c.flag_hole.ensures.flags_after c.flag_hole-in-loop-q.ensures.flags_after,
 )
 
 pub returns : goal.returns

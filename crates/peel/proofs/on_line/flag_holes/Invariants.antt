@@ -1,12 +1,6 @@
 -- `peel::on_line::flag_holes` gives the missing cells of neighbouring lines flag 3, line after line.
-use mathlib.Core.Path.{◌≡◌, ap, ◌∙◌}
-use Prim.Native.Nat.{◌+◌, ◌-◌, ◌*◌, ◌≤◌, ◌<◌}
-use native.Mathlib.Omega.{arith}
-use lib.ListN.{length, length-set}
-use Rattle.shape.specs.Shapes.{cells}
-use Rattle.shape.proofs.Geometry.{line-cell-lt}
+use Prim.Native.Nat.{◌-◌, ◌≤◌}
 use Rattle.peel.specs.Inner.OnLine.{Flagged}
-use Rattle.peel.proofs.Visiting.{flagged-none, flagged-more}
 use Rattle.peel.proofs.on_line.flag_holes.Given as goal
 
 abbrev pub invariant-loop-q : goal.invariant-loop-q

@@ -1,7 +1,6 @@
 -- `peel::on_line::recover` writes the missing cells of neighbouring lines.
 use Prim.Native.Nat.{◌≤◌}
 use native.Mathlib.Omega.{arith}
-use borrow.Author.Rules.{rules}
 use Rattle.shape.proofs.Geometry.{line-length-high}
 use Rattle.cube.proofs.Completing.{outcome-solved}
 use Rattle.peel.specs.Inner.OnLine.{run_of}

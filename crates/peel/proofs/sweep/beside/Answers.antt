@@ -2,7 +2,6 @@
 use Prim.Native.Nat.{◌%◌, ◌<◌}
 use native.Mathlib.Nat.{mod-lt}
 use native.Mathlib.Omega.{arith}
-use borrow.Author.Rules.{rules}
 use Rattle.peel.proofs.sweep.beside.Goals as goal
 use Rattle.peel.proofs.sweep.beside.Goals.{Start}
 

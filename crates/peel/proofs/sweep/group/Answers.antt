@@ -3,7 +3,6 @@ use native.Mathlib.Omega.{arith}
 use lib.ListN.{length-set}
 use Rattle.peel.specs.Inner.Wake.{mark_at}
 use Rattle.peel.proofs.Visiting.{group-calm, group-filled}
-use borrow.Author.Rules.{rules}
 use Rattle.peel.proofs.sweep.group.Goals as goal
 
 pub wide-mark-requires : goal.wide-mark-requires
@@ -16,8 +15,8 @@ pub visit_lines-requires : goal.visit_lines-requires
 visit_lines-requires c =
     let pre = c.requires in
     record {
-      sized = pre.0;
-      le_axis = (pre.1.1.0, pre.1.1.1, omega arith, simp length-set pre.1.0.size);
+      sized = pre.sized;
+      le_axis = (pre.le_axis.0, pre.le_axis.1, omega arith, simp length-set pre.calm.size);
     }
 
 pub returns : goal.returns
@@ -25,6 +24,6 @@ unfolding mark_at
 returns c =
     let pre = c.requires in
     let visited = rw c.wide-mark.ensures.0 at c.visit_lines.ensures in record {
-      filled = group-filled pre.0.valid pre.1.1.0 pre.1.1.1 pre.1.1.2 pre.1.0 visited;
-      calm_2 = group-calm pre.0.valid pre.1.1.0 pre.1.1.1 pre.1.1.2 pre.1.0 visited;
+      filled = group-filled pre.sized.valid pre.le_axis.0 pre.le_axis.1 pre.le_axis.2 pre.calm visited;
+      calm_2 = group-calm pre.sized.valid pre.le_axis.0 pre.le_axis.1 pre.le_axis.2 pre.calm visited;
     }

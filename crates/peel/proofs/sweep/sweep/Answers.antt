@@ -1,8 +1,8 @@
 -- `peel::sweep::sweep` visits each group of an axis that is not quiet; the lines of a quiet one stop.
-use Prim.Native.Nat.{◌-◌, ◌*◌, ◌≤◌}
+use Prim.Native.Nat.{◌*◌}
 use native.Mathlib.Omega.{arith}
 use Rattle.field.specs.Field.{reduction}
-use Rattle.peel.specs.Inner.Sweep.{LinesStop, Filled, Calm}
+use Rattle.peel.specs.Inner.Sweep.{LinesStop, Filled}
 use Rattle.peel.proofs.Visiting.{swept_none, swept-quiet, swept-group, swept_all}
 use Rattle.peel.proofs.Reaching.{reaches-sized, filled-le}
 use Rattle.peel.proofs.sweep.sweep.Goals as goal
@@ -26,19 +26,19 @@ next_awake-g-requires c = (c.requires.le_axis.0, c.requires.le_axis.1, c.loop-g.
 
 pub returns-then-g-groups : goal.returns-then-g-groups
 returns-then-g-groups c = record {
-      filled = swept_all _ c.requires.sized.valid c.groups-groups.ensures.0 (rw c.if-g-groups.true at (swept (goal.at.returns-then-g-groups c).After-next_awake-g));
-      calm_2 = c.loop-g.invariant.1;
-    }
+  filled = swept_all _ c.requires.sized.valid c.groups-groups.ensures.0 (rw c.if-g-groups.true at (swept (goal.at.returns-then-g-groups c).After-next_awake-g));
+  calm_2 = c.loop-g.invariant.1;
+}
 
 pub group-filled-requires : goal.group-filled-requires
 group-filled-requires c = record {
-      sized = reaches-sized c.requires.sized c.loop-g.invariant.2.reaches;
-      calm = c.loop-g.invariant.1;
-      le_axis = (c.requires.le_axis.0, c.requires.le_axis.1, omega (arith, c.next_awake-g.ensures.1, c.groups-groups.ensures.1));
-    }
+  sized = reaches-sized c.requires.sized c.loop-g.invariant.2.reaches;
+  calm = c.loop-g.invariant.1;
+  le_axis = (c.requires.le_axis.0, c.requires.le_axis.1, omega (arith, c.next_awake-g.ensures.1, c.groups-groups.ensures.1));
+}
 
 pub overflow_add-filled : goal.overflow_add-filled
-overflow_add-filled c = omega (arith, filled-le (swept-group _ (swept (goal.at.overflow_add-filled c).After-next_awake-g) c.group-filled.ensures.0), c.requires.sized.flags)
+overflow_add-filled c = omega (arith, filled-le (swept-group _ (swept (goal.at.overflow_add-filled c).After-next_awake-g) c.group-filled.ensures.filled), c.requires.sized.flags)
 
 pub overflow_add-g : goal.overflow_add-g
 overflow_add-g c = omega (arith, c.next_awake-g.ensures.1, c.groups-groups.ensures.1)
@@ -49,6 +49,6 @@ loop-g-smaller c = omega (arith, c.next_awake-g.ensures.0, c.next_awake-g.ensure
 pub loop-g-preserved : goal.loop-g-preserved
 loop-g-preserved c = (
   omega (arith, c.next_awake-g.ensures.1),
-  c.group-filled.ensures.1,
-  swept-group _ (swept (goal.at.loop-g-preserved c).After-next_awake-g) c.group-filled.ensures.0,
+  c.group-filled.ensures.calm_2,
+  swept-group _ (swept (goal.at.loop-g-preserved c).After-next_awake-g) c.group-filled.ensures.filled,
 )

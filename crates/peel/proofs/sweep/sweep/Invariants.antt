@@ -1,10 +1,7 @@
 -- `peel::sweep::sweep` visits each group of an axis that is not quiet; the lines of a quiet one stop.
 use Prim.Native.Nat.{◌-◌, ◌*◌, ◌≤◌}
-use native.Mathlib.Omega.{arith}
 use Rattle.field.specs.Field.{reduction}
 use Rattle.peel.specs.Inner.Sweep.{LinesStop, Filled, Calm}
-use Rattle.peel.proofs.Visiting.{swept_none, swept-quiet, swept-group, swept_all}
-use Rattle.peel.proofs.Reaching.{reaches-sized, filled-le}
 use Rattle.peel.proofs.sweep.sweep.Given as goal
 
 abbrev pub invariant-loop-g : goal.invariant-loop-g

@@ -1,16 +1,13 @@
 -- `peel::sweep::sweeps` sweeps the axes 1, 2, 3 over and over until three of them in succession fill nothing: then no line is left to peel. Each
 -- sweep fills a cell or is idle, so that the measure falls.
-use mathlib.Core.Path.{◌≡◌}
-use mathlib.Core.Logic.{◌≢◌, ◌⊎◌, inl, inr, ⊎_elim}
 use Prim.Native.Nat.{◌+◌, ◌-◌, ◌*◌, ◌≤◌}
-use native.Mathlib.Omega.{arith}
 use Rattle.shape.specs.Shapes.{cells}
 use Rattle.stopping.specs.Stopping.{number}
 use Rattle.shape.specs.Flags.{missing}
 use Rattle.field.specs.Field.{reduction}
 use Rattle.peel.specs.Peel.{Reaches}
 use Rattle.peel.specs.Inner.Sweep.{Calm}
-use Rattle.peel.proofs.Reaching.{reaches-refl, reaches-trans, reaches-sized, Idle, idle-none, turn-idle, turn-bound, turn-less, axes-peeled}
+use Rattle.peel.proofs.Reaching.{Idle}
 use Rattle.peel.proofs.sweep.sweeps.Given as goal
 
 abbrev pub invariant-loop-idle : goal.invariant-loop-idle

@@ -1,7 +1,6 @@
 -- `peel::sweep::visit` fills line m of an axis and perhaps its neighbours, or finds that there is none.
 use mathlib.Core.Path.{◌≡◌}
 use native.Mathlib.Omega.{arith}
-use borrow.Author.Rules.{rules}
 use Rattle.answer.specs.Values.{passes}
 use Rattle.shape.specs.Shapes.{line_of}
 use Rattle.shape.proofs.Valid.{line-told, line_refused}
@@ -16,10 +15,10 @@ found c = line-told _ _ _ _ _ c.axis_line-found.ensures c.in-Found.is
 
 pub returns-in_default : goal.returns-in_default
 returns-in_default c = record {
-      le_lines = (omega arith, omega arith);
-      visited = visited-past _ _ _ _
+  le_lines = (omega arith, omega arith);
+  visited = visited-past _ _ _ _
       (lines-ended _ _ _ _ c.requires.sized.valid c.requires.le_axis.0 c.requires.le_axis.1 (line_refused _ _ _ _ _ c.axis_line-found.ensures c.in_default.is));
-    }
+}
 
 pub beside-requires : goal.beside-requires
 beside-requires c = (line-stride-pos _ _ _ _ c.requires.sized.valid (line-found _ _ _ _ (found (goal.at.beside-requires c).In-Found)), c.requires.le_axis.2)
@@ -34,6 +33,6 @@ fill_lines-requires c =
 
 pub returns : goal.returns
 returns c = record {
-      le_lines = (c.fill_lines.ensures.0.0, omega (arith, c.fill_lines.ensures.0.1, c.beside.ensures.1));
-      visited = visited-lines _ _ (found (goal.at.returns c).In-Found) (omega (arith, c.fill_lines.ensures.0.1, c.beside.ensures.2)) c.fill_lines.ensures.1;
-    }
+  le_lines = (c.fill_lines.ensures.le_lines.0, omega (arith, c.fill_lines.ensures.le_lines.1, c.beside.ensures.1));
+  visited = visited-lines _ _ (found (goal.at.returns c).In-Found) (omega (arith, c.fill_lines.ensures.le_lines.1, c.beside.ensures.2)) c.fill_lines.ensures.lines_visited;
+}

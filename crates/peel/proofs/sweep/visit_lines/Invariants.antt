@@ -1,11 +1,7 @@
 -- `peel::sweep::visit_lines` visits lines of an axis, some of them side by side at once.
-use mathlib.Core.Path.{◌∙◌}
-use Prim.Native.Nat.{◌+◌, ◌-◌, ◌≤◌}
-use native.Mathlib.Omega.{arith}
+use Prim.Native.Nat.{◌-◌, ◌≤◌}
 use Rattle.field.specs.Field.{reduction}
 use Rattle.peel.specs.Inner.Sweep.{Visited}
-use Rattle.peel.proofs.Visiting.{visited-none, visited-next, visited-fewer}
-use Rattle.peel.proofs.Reaching.{reaches-sized, filled-le}
 use Rattle.peel.proofs.sweep.visit_lines.Given as goal
 
 abbrev pub invariant-loop-m : goal.invariant-loop-m

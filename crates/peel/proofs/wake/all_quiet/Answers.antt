@@ -1,12 +1,7 @@
 -- `peel::wake::all_quiet` joins the differences from the mark of a quiet group in one byte, which is 00h exactly when all are.
-use mathlib.Core.Path.{◌≡◌}
-use mathlib.Core.List.{List}
-use Prim.Native.Nat.{ℕ, ◌+◌, ◌-◌, ◌≤◌}
 use native.Mathlib.Omega.{arith}
 use borrow.Author.Tests.{eqb-true}
-use lib.ListN.{get_or}
-use Rattle.span.proofs.Joining.{Joined, joined-none, joined-more, xor-zero, xor_same}
-use Rattle.peel.proofs.wake.all_quiet.Invariants.{Marked}
+use Rattle.span.proofs.Joining.{joined-none, joined-more, xor-zero, xor_same}
 use Rattle.peel.proofs.wake.all_quiet.Goals as goal
 
 pub loop-i-init : goal.loop-i-init

@@ -2,10 +2,8 @@
 use mathlib.Core.Path.{◌≡◌}
 use mathlib.Core.List.{List}
 use Prim.Native.Nat.{ℕ, ◌+◌, ◌-◌, ◌≤◌}
-use native.Mathlib.Omega.{arith}
-use borrow.Author.Tests.{eqb-true}
 use lib.ListN.{get_or}
-use Rattle.span.proofs.Joining.{Joined, joined-none, joined-more, xor-zero, xor_same}
+use Rattle.span.proofs.Joining.{Joined}
 use Rattle.peel.proofs.wake.all_quiet.Given as goal
 
 -- mark i from a place on is that of a quiet group

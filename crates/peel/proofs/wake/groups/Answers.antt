@@ -36,6 +36,6 @@ pub returns-in_default : goal.returns-in_default
 unfolding lines_of
 returns-in_default c =
     let v = c.requires.0 in
-    let third : 2 < c.args.axis = omega (arith, c.in_default.rest.0.1, c.in_default.rest.1) in
+    let third : 2 < c.args.axis = omega arith in
     rw (lt-leb c.args.axis 1 (omega arith), lt-leb c.args.axis 2 third)
     (omega arith, omega (arith, area-le _ _ v.l1_high v.l2_high))

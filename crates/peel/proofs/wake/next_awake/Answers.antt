@@ -1,9 +1,5 @@
 -- `peel::wake::next_awake` passes over groups that are quiet, many at a time and then one by one.
-use Prim.Native.Nat.{◌-◌, ◌≤◌}
 use native.Mathlib.Omega.{arith}
-use borrow.Author.Rules.{rules}
-use borrow.Author.Tests.{eqb-true}
-use Rattle.peel.specs.Inner.Wake.{AllQuiet}
 use Rattle.peel.proofs.Awake.{quiet_next}
 use Rattle.peel.proofs.wake.next_awake.Goals as goal
 
@@ -11,10 +7,7 @@ pub loop-g-init : goal.loop-g-init
 loop-g-init c = c.past_quiet-g.ensures
 
 pub loop-g-preserved : goal.loop-g-preserved
-loop-g-preserved c = (omega arith, omega arith, quiet_next c.loop-g.invariant.2 c.if-marks-base-eq-QUIET.true)
-
-pub returns-else-marks-base-eq-QUIET : goal.returns-else-marks-base-eq-QUIET
-returns-else-marks-base-eq-QUIET c = c.loop-g.invariant
+loop-g-preserved c = (omega arith, omega arith, quiet_next c.loop-g.invariant.2 (omega arith))
 
 pub returns-after-loop-g : goal.returns-after-loop-g
 returns-after-loop-g c = c.loop-g.invariant

@@ -1,10 +1,6 @@
 -- `peel::wake::next_awake` passes over groups that are quiet, many at a time and then one by one.
 use Prim.Native.Nat.{◌-◌, ◌≤◌}
-use native.Mathlib.Omega.{arith}
-use borrow.Author.Rules.{rules}
-use borrow.Author.Tests.{eqb-true}
 use Rattle.peel.specs.Inner.Wake.{AllQuiet}
-use Rattle.peel.proofs.Awake.{quiet_next}
 use Rattle.peel.proofs.wake.next_awake.Given as goal
 
 abbrev pub invariant-loop-g : goal.invariant-loop-g

@@ -1,7 +1,5 @@
 -- `peel::wake::past_quiet` passes over groups that are quiet, 32 at a time.
-use Prim.Native.Nat.{◌-◌, ◌≤◌}
 use native.Mathlib.Omega.{arith}
-use Rattle.peel.specs.Inner.Wake.{AllQuiet}
 use Rattle.peel.proofs.Awake.{quiet_none, quiet-more}
 use Rattle.peel.proofs.wake.past_quiet.Goals as goal
 

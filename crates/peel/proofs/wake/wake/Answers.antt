@@ -1,7 +1,6 @@
 -- `peel::wake::wake` wakes the line of each axis through a cell.
 use native.Mathlib.Nat.{mul-pos}
 use native.Mathlib.Omega.{arith}
-use borrow.Author.Rules.{rules}
 use Rattle.shape.proofs.Valid.{area-le}
 use Rattle.peel.proofs.Awake.{line-below, through-first, through-second, through-third, woken-through}
 use Rattle.peel.proofs.wake.wake.Goals as goal

@@ -1,5 +1,4 @@
 -- `peel::wake::wake_line` stretches the mark of a line's group.
-use native.Mathlib.Omega.{arith}
 use Rattle.peel.proofs.wake.wake_line.Goals as goal
 
 pub returns : goal.returns
