@@ -1,7 +1,6 @@
 -- `text::lines::hex_line` meets its contract.
 use native.Mathlib.Omega.{arith}
 use Rattle.span.proofs.Decision.{decides-no, decides-map}
-use borrow.Author.Rules.{rules}
 use Rattle.text.proofs.lines.hex_line.Goals as goal
 
 pub returns-then-text-digits : goal.returns-then-text-digits

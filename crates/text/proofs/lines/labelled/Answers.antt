@@ -2,7 +2,6 @@
 use native.Mathlib.Omega.{arith}
 use Rattle.span.proofs.Decision.{decides-false, decides-true}
 use Rattle.text.proofs.Parts.{label-never, label-found}
-use borrow.Author.Rules.{rules}
 use Rattle.text.proofs.lines.labelled.Goals as goal
 
 pub returns-then-not-same : goal.returns-then-not-same

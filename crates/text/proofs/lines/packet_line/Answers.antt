@@ -2,7 +2,6 @@
 use native.Mathlib.Omega.{arith}
 use Rattle.span.proofs.Decision.{decides-false, decides-true}
 use Rattle.text.proofs.Parts.{three-some, three-none, packet-numbers-none, packet-bytes-none, packet-read}
-use borrow.Author.Rules.{rules}
 use Rattle.text.proofs.lines.packet_line.Goals as goal
 
 pub returns-in_default : goal.returns-in_default

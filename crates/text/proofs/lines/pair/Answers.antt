@@ -1,6 +1,5 @@
 -- `text::lines::pair` meets its contract.
 use Rattle.text.proofs.Hexadecimal.{pair-test}
-use borrow.Author.Rules.{rules}
 use Rattle.text.proofs.lines.pair.Goals as goal
 
 pub returns : goal.returns

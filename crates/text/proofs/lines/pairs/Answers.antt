@@ -1,12 +1,9 @@
 -- `text::lines::pairs` meets its contract: the differences so far are 0 exactly when the characters so far are alike.
 use mathlib.Core.Path.{sym, ◌∙◌}
-use Prim.Native.Nat.{◌-◌, ◌*◌, ◌≤◌}
 use native.Mathlib.Omega.{arith}
-use borrow.Author.Rules.{rules}
 use Rattle.span.proofs.Decision.{decides-yes, decides-no, decides_eq, decides-false, decides-true}
-use Rattle.span.proofs.Joining.{Joined, joined-none, joined-more, xor-zero, xor_same}
-use Rattle.text.specs.Inner.Lines.{Pair}
-use Rattle.text.proofs.Hexadecimal.{Alike, pairs-alike, alike-pairs, pairs_first}
+use Rattle.span.proofs.Joining.{joined-none, joined-more, xor-zero, xor_same}
+use Rattle.text.proofs.Hexadecimal.{pairs-alike, alike-pairs, pairs_first}
 use Rattle.text.proofs.lines.pairs.Goals as goal
 
 pub returns-then-w-eq0 : goal.returns-then-w-eq0

@@ -2,7 +2,6 @@
 use native.Mathlib.Omega.{arith}
 use Rattle.span.proofs.Decision.{decides-false, decides-true}
 use Rattle.text.proofs.Parts.{number-some, number-none, three-some, three-none, lengths_none, width-none, line-end-none, shape-read}
-use borrow.Author.Rules.{rules}
 use Rattle.text.proofs.lines.shape_line.Goals as goal
 
 pub returns-in_default : goal.returns-in_default

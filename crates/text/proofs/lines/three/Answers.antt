@@ -1,6 +1,5 @@
 -- `text::lines::three` meets its contract.
 use Rattle.text.proofs.Parts.{number-some, number-none, first-nothing, second-nothing, third-nothing, three-read}
-use borrow.Author.Rules.{rules}
 use Rattle.text.proofs.lines.three.Goals as goal
 
 pub returns-in_default : goal.returns-in_default

@@ -2,7 +2,6 @@
 use mathlib.Core.Path.{refl, ◌∙◌}
 use native.Mathlib.Omega.{arith}
 use lib.ListN.{get_or-eq_default}
-use borrow.Author.Rules.{rules}
 use Rattle.text.proofs.Standing.{cons-path, drop_head, drop-one}
 use Rattle.text.proofs.numbers.digit.Goals as goal
 

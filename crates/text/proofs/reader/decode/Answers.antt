@@ -1,10 +1,7 @@
 -- `text::reader::decode` meets its contract. The invariant: the bytes before i are decoded. Assumes nothing.
 use mathlib.Core.Path.{◌≡◌, refl, sym}
-use Prim.Native.Nat.{◌+◌, ◌-◌, ◌*◌, ◌≤◌}
 use native.Mathlib.Omega.{arith}
-use Rattle.span.specs.Span.{Copied}
 use Rattle.span.proofs.Copying.{copied_none}
-use Rattle.text.specs.Inner.Lines.{pair_bytes}
 use Rattle.text.proofs.Hexadecimal.{pair_values, pairs-length}
 use Rattle.text.proofs.Decoding.{decoded-more}
 use Rattle.text.proofs.reader.decode.Goals as goal
@@ -53,13 +50,12 @@ pub overflow_add-i : goal.overflow_add-i
 overflow_add-i c = omega (arith, c.requires.0.inside)
 
 pub loop-i-preserved : goal.loop-i-preserved
-loop-i-preserved c =
-    (
-      omega arith,
-      omega arith,
-      decoded-more _ _ _ _ c.loop-i.i c.loop-i.k _ _ _ (omega arith) c.loop-i.invariant.1 refl (omega (arith, c.requires.1, c.loop-i.invariant.2.kept.size))
-          c.value.ensures c.value-in-loop-i.ensures c.loop-i.invariant.2,
-    )
+loop-i-preserved c = (
+  omega arith,
+  omega arith,
+  decoded-more _ _ _ _ c.loop-i.i c.loop-i.k _ _ _ (omega arith) c.loop-i.invariant.1 refl (omega (arith, c.requires.1, c.loop-i.invariant.2.kept.size))
+      c.value.ensures c.value-in-loop-i.ensures c.loop-i.invariant.2,
+)
 
 pub shape_of-out : goal.shape_of-out
 shape_of-out c = c.loop-i.invariant.2.kept.size

@@ -1,12 +1,8 @@
 -- `text::reader::decode` meets its contract. The invariant: the bytes before i are decoded. Assumes nothing.
-use mathlib.Core.Path.{◌≡◌, refl, sym}
+use mathlib.Core.Path.{◌≡◌}
 use Prim.Native.Nat.{◌+◌, ◌-◌, ◌*◌, ◌≤◌}
-use native.Mathlib.Omega.{arith}
 use Rattle.span.specs.Span.{Copied}
-use Rattle.span.proofs.Copying.{copied_none}
 use Rattle.text.specs.Inner.Lines.{pair_bytes}
-use Rattle.text.proofs.Hexadecimal.{pair_values, pairs-length}
-use Rattle.text.proofs.Decoding.{decoded-more}
 use Rattle.text.proofs.reader.decode.Given as goal
 
 abbrev pub invariant-loop-i : goal.invariant-loop-i

@@ -7,7 +7,6 @@ use Rattle.pack.specs.Reading.{header_with, header_for}
 use Rattle.pack.proofs.Written.{air_head-length}
 use Rattle.pack_writer.proofs.Starting.{start-passed}
 use Rattle.text.proofs.Decoding.{start-told, start-refuted, pack-laid}
-use borrow.Author.Rules.{rules}
 use Rattle.text.proofs.reader.put_air.Goals as goal
 
 pub returns-in_default : goal.returns-in_default

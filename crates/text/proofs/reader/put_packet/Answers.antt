@@ -2,7 +2,6 @@
 use native.Mathlib.Omega.{arith}
 use Rattle.pack_writer.proofs.Laying.{coordinates-told}
 use Rattle.text.proofs.Decoding.{line-below, line-refuted, line-again, packet-put}
-use borrow.Author.Rules.{rules}
 use Rattle.text.proofs.reader.put_packet.Goals as goal
 
 pub three-read-requires : goal.three-read-requires

@@ -1,8 +1,8 @@
 -- `text::reader::put_packets` meets its contract. The invariant: the packets of the lines before i are laid. Assumes nothing.
-use Prim.Native.Nat.{◌+◌, ◌-◌, ◌*◌, ◌≤◌, ◌<◌}
+use Prim.Native.Nat.{◌+◌, ◌*◌, ◌≤◌, ◌<◌}
 use native.Mathlib.Omega.{arith}
 use lib.ListN.{length}
-use Rattle.text.proofs.Decoding.{Turned, turned_none, turned-line, turned-room, turned_more, turned-all, turned-size, read-lines}
+use Rattle.text.proofs.Decoding.{turned_none, turned-line, turned-room, turned_more, turned-all, turned-size, read-lines}
 use Rattle.text.proofs.reader.put_packets.Goals as goal
 
 pub loop-i-init : goal.loop-i-init

@@ -1,8 +1,6 @@
 -- `text::reader::put_packets` meets its contract. The invariant: the packets of the lines before i are laid. Assumes nothing.
-use Prim.Native.Nat.{◌+◌, ◌-◌, ◌*◌, ◌≤◌, ◌<◌}
-use native.Mathlib.Omega.{arith}
-use lib.ListN.{length}
-use Rattle.text.proofs.Decoding.{Turned, turned_none, turned-line, turned-room, turned_more, turned-all, turned-size, read-lines}
+use Prim.Native.Nat.{◌-◌, ◌≤◌}
+use Rattle.text.proofs.Decoding.{Turned}
 use Rattle.text.proofs.reader.put_packets.Given as goal
 
 abbrev pub invariant-loop-i : goal.invariant-loop-i

@@ -3,7 +3,6 @@ use mathlib.Core.Path.{refl}
 use Rattle.answer.specs.Values.{answer_value, refusal}
 use Rattle.text.specs.Text.{read_broken}
 use Rattle.text.proofs.Decoding.{scanned-broken, scanned-whole}
-use borrow.Author.Rules.{rules}
 use Rattle.text.proofs.reader.read_text.Goals as goal
 
 pub read_whole-requires : goal.read_whole-requires

@@ -5,7 +5,6 @@ use Rattle.answer.specs.Refusals.{fault_number, packet_fault_number}
 use Rattle.answer.specs.Values.{answer_value, refusal}
 use Rattle.pack_writer.proofs.Starting.{air-size-given, air-size-refused, start-short, start_fits}
 use Rattle.text.proofs.Decoding.{read-unfit, read-refusing, read-beyond, read_whole}
-use borrow.Author.Rules.{rules}
 use Rattle.text.proofs.reader.read_whole.Goals as goal
 
 pub returns-then-air-size : goal.returns-then-air-size

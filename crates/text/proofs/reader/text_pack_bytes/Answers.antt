@@ -4,7 +4,6 @@ use Rattle.answer.specs.Values.{refusal}
 use Rattle.pack_writer.specs.Writing.{size_value}
 use Rattle.text.specs.Text.{size_broken}
 use Rattle.text.proofs.Decoding.{scanned-broken, scanned-whole, packets-few, size-told}
-use borrow.Author.Rules.{rules}
 use Rattle.text.proofs.reader.text_pack_bytes.Goals as goal
 
 pub overflow_cast-s : goal.overflow_cast-s

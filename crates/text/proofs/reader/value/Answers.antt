@@ -1,7 +1,6 @@
 -- `text::reader::value` meets its contract. Assumes nothing.
 use mathlib.Core.Path.{refl}
 use Rattle.text.specs.Inner.Lines.{hex_value}
-use borrow.Author.Rules.{rules}
 use Rattle.text.proofs.reader.value.Goals as goal
 
 pub returns : goal.returns

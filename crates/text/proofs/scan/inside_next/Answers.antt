@@ -1,7 +1,6 @@
 -- `text::scan::inside_next` meets its contract.
 use native.Mathlib.Omega.{arith}
 use Rattle.text.specs.Inner.Scan.{one_before, this_one, none_yet}
-use borrow.Author.Rules.{rules}
 use Rattle.text.proofs.scan.inside_next.Goals as goal
 
 pub returns-then-inside-n : goal.returns-then-inside-n

@@ -1,6 +1,5 @@
 -- `text::scan::scan` meets its contract.
 use Rattle.text.proofs.FirstTurn.{shape-some, shape-none}
-use borrow.Author.Rules.{rules}
 use Rattle.text.proofs.scan.scan.Goals as goal
 
 pub returns-in_default : goal.returns-in_default

@@ -1,10 +1,7 @@
 -- `text::scan::scan_packets` meets its contract: the lines passed are those of a list of packets.
 use Prim.Native.Nat.{◌-◌}
-use native.Mathlib.Omega.{arith}
-use mathlib.Core.Logic.{inl, inr}
 use lib.ListN.{length}
-use borrow.Author.Rules.{rules}
-use Rattle.text.proofs.FirstTurn.{SoFar, none_so_far, line-ends, more-so-far, whole-so-far, broken-so-far, packet-none}
+use Rattle.text.proofs.FirstTurn.{SoFar}
 use Rattle.text.proofs.scan.scan_packets.Given as goal
 
 abbrev pub invariant-loop-at : goal.invariant-loop-at
