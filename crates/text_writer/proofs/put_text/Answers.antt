@@ -1,0 +1,15 @@
+-- `text_writer::put_text` meets its contract. Assumes nothing.
+use borrow.Author.Rules.{rules}
+use Rattle.text.specs.Form.{first_line}
+use Rattle.text_writer.proofs.TextLines.{text-room, text-whole}
+use Rattle.text_writer.proofs.put_text.Goals as goal
+
+pub append_lines-requires : goal.append_lines-requires
+unfolding first_line
+append_lines-requires c =
+    (c.requires.0, text-room _ _ _ _ _ _ c.requires.1 c.append_shape-behind.ensures)
+
+pub returns : goal.returns
+unfolding first_line
+returns c =
+    text-whole _ _ _ _ _ _ c.requires.1 c.append_shape-behind.ensures _ _ c.append_lines.ensures

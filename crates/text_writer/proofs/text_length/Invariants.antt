@@ -1,0 +1,17 @@
+-- `text_writer::text_length` meets its contract. Assumes nothing.
+use mathlib.Core.Path.{◌≡◌, ap}
+use Prim.Native.Nat.{ℕ, ◌+◌, ◌-◌, ◌*◌, ◌^◌, ◌≤◌, ◌<◌}
+use native.Mathlib.Omega.{arith}
+use lib.ListN.{length}
+use Rattle.pack.specs.Packets.{packet_in}
+use Rattle.pack.proofs.Sound.{air-sound}
+use Rattle.text.specs.Form.{first_line}
+use Rattle.text_writer.proofs.TextLines.{first_line-le, lines_to, lines_to-more, text_in-length}
+use Rattle.text_writer.proofs.text_length.Given as goal
+
+abbrev pub invariant-loop-i : goal.invariant-loop-i
+invariant-loop-i l =
+    (l.i ≤ l.count) × (l.len ≡ length (first_line l.h.shape) + length (lines_to (packet_in l.air l.h l.s) l.i)) × (l.len ≤ 90 + 3142 * l.i)
+
+abbrev pub decreases-loop-i : goal.decreases-loop-i
+decreases-loop-i l = l.count - l.i
