@@ -6,9 +6,9 @@ use Rattle.shape.proofs.Valid.{measure-fits}
 use Rattle.span.proofs.Decision.{decides-no, decides_eq}
 use Rattle.peel.proofs.Sizing.{passed-sized, sized-bytes, sized-flags, refused-unsized}
 use Rattle.peel.proofs.fits.Goals as goal
-use Rattle.peel.proofs.fits.Goals.{After-struct_known-1}
+use Rattle.peel.proofs.fits.Goals.{In-Fits}
 
-passed : (c : After-struct_known-1) → shape_checked c.args.sh ≡ passes c.in-Fits.z
+passed : (c : In-Fits) → shape_checked c.args.sh ≡ passes c.in-Fits.z
 passed c = measure-fits _ _ _ c.measure.ensures c.in-Fits.is
 
 pub returns-in-Refused : goal.returns-in-Refused
@@ -16,8 +16,8 @@ returns-in-Refused c = decides-no (refused-unsized _ _ _ _ _ c.measure.ensures c
 
 pub returns-then-cube-z : goal.returns-then-cube-z
 returns-then-cube-z c =
-    let fits = passed (goal.at.returns-then-cube-z c).After-struct_known-1 in
+    let fits = passed (goal.at.returns-then-cube-z c).In-Fits in
     decides_eq _ _ (sized-flags _ _ _ _ fits) (passed-sized _ _ _ _ fits c.if-cube-z.true)
 
 pub returns-else-cube-z : goal.returns-else-cube-z
-returns-else-cube-z c = decides_eq _ _ (sized-bytes _ _ _ _ (passed (goal.at.returns-else-cube-z c).After-struct_known-1)) (λ e. absurd (c.if-cube-z.false e))
+returns-else-cube-z c = decides_eq _ _ (sized-bytes _ _ _ _ (passed (goal.at.returns-else-cube-z c).In-Fits)) (λ e. absurd (c.if-cube-z.false e))

@@ -3,6 +3,7 @@
 use mathlib.Core.Logic.{inl, inr, ⊎_elim}
 use Prim.Native.Nat.{◌*◌, ◌≤◌}
 use native.Mathlib.Omega.{arith}
+use borrow.Author.Rules.{rules}
 use Rattle.shape.specs.Flags.{missing}
 use Rattle.erasures.specs.Erasures.{Scanned}
 use Rattle.erasures.proofs.Inside.{line-places}
@@ -38,7 +39,7 @@ filled :
     c.args.cube.now c.args.flags.now c.recover.new.cube c.flag_holes.new.flags (c.scan_line-e.result.count * c.alike-n.result)
 filled c =
     lines-filled _ _ _ _ _ _ c.requires.sized _ _ _ _ _ _ _ (neighbours-fewer c.requires.neighbours c.alike-n.ensures.0 c.alike-n.ensures.1) c.alike-n.ensures.2 c.flag_holes.ensures _ primitive _
-    (λ p. omega (arith, c.slice_known-1.given p)) c.recover.ensures
+    (λ p. search rules) c.recover.ensures
 
 pub returns-then-count-eq0 : goal.returns-then-count-eq0
 returns-then-count-eq0 c = record {
