@@ -1,5 +1,4 @@
 -- `text_writer::append_packet` meets its contract. Assumes nothing.
-use borrow.Author.Rules.{rules}
 use native.Mathlib.Omega.{arith}
 use Rattle.text_writer.proofs.TextLines.{no-parts, line-room, line-appended}
 use Rattle.text_writer.proofs.append_packet.Goals as goal

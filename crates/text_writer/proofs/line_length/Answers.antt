@@ -1,5 +1,4 @@
 -- `text_writer::line_length` meets its contract. Assumes nothing.
-use borrow.Author.Rules.{rules}
 use native.Mathlib.Omega.{arith}
 use Rattle.pack.proofs.Sound.{air-sound}
 use Rattle.text_writer.proofs.TextLines.{no-parts, line-length, line-le}
