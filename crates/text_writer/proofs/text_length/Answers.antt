@@ -20,7 +20,7 @@ line_length-len-requires c = (c.requires, omega arith)
 
 pub overflow_add-len : goal.overflow_add-len
 overflow_add-len c =
-    let few : c.args.s.count < 2 ^ 32 = (air-sound _ _ _ c.requires).few (λ k. omega (arith, c.shared_slice_known-1.given k)) in
+    let few : c.args.s.count < 2 ^ 32 = (air-sound _ _ _ c.requires).few (λ k. omega (arith, c.type_inv.air k)) in
     omega (arith, c.line_length-len.ensures.1)
 
 pub loop-i-preserved : goal.loop-i-preserved
