@@ -1,11 +1,7 @@
 -- `text_writer::append_bytes` meets its contract. Assumes nothing.
 use mathlib.Core.Path.{◌≡◌}
-use Prim.Native.Nat.{◌+◌, ◌-◌, ◌*◌, ◌≤◌}
 use native.Mathlib.Omega.{arith}
-use lib.ListN.{length, take, drop, length-set}
-use borrow.Author.Rules.{rules}
-use Rattle.printing.specs.Append.{Appended}
-use Rattle.text.specs.Form.{hex_bytes}
+use lib.ListN.{length-set}
 use Rattle.text_writer.proofs.TextLines.{bytes-none, bytes-more}
 use Rattle.text_writer.proofs.append_bytes.Goals as goal
 
@@ -22,15 +18,14 @@ pub bounds-text-k-in-loop-i-2 : goal.bounds-text-k-in-loop-i-2
 bounds-text-k-in-loop-i-2 c = simp length-set (omega (arith, c.loop-i.invariant.4.size))
 
 pub loop-i-preserved : goal.loop-i-preserved
-loop-i-preserved c =
-    (
-      omega arith,
-      omega arith,
-      omega arith,
-      omega arith,
-      bytes-more _ c.args.air.now _ _ _ c.args.from c.loop-i.i c.loop-i.k (omega arith) (omega arith) c.hex_digits-digits.ensures
-          c.loop-i.invariant.4,
-    )
+loop-i-preserved c = (
+  omega arith,
+  omega arith,
+  omega arith,
+  omega arith,
+  bytes-more _ c.args.air.now _ _ _ c.args.from c.loop-i.i c.loop-i.k (omega arith) (omega arith) c.hex_digits-digits.ensures
+      c.loop-i.invariant.4,
+)
 
 pub returns : goal.returns
 returns c =

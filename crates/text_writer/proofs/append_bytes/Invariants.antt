@@ -1,12 +1,9 @@
 -- `text_writer::append_bytes` meets its contract. Assumes nothing.
 use mathlib.Core.Path.{◌≡◌}
 use Prim.Native.Nat.{◌+◌, ◌-◌, ◌*◌, ◌≤◌}
-use native.Mathlib.Omega.{arith}
-use lib.ListN.{length, take, drop, length-set}
-use borrow.Author.Rules.{rules}
+use lib.ListN.{length, take, drop}
 use Rattle.printing.specs.Append.{Appended}
 use Rattle.text.specs.Form.{hex_bytes}
-use Rattle.text_writer.proofs.TextLines.{bytes-none, bytes-more}
 use Rattle.text_writer.proofs.append_bytes.Given as goal
 
 abbrev pub invariant-loop-i : goal.invariant-loop-i

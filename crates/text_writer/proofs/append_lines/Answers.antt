@@ -1,10 +1,6 @@
 -- `text_writer::append_lines` meets its contract. Assumes nothing.
-use Prim.Native.Nat.{◌-◌, ◌≤◌}
 use native.Mathlib.Omega.{arith}
-use borrow.Author.Rules.{rules}
-use Rattle.pack.specs.Packets.{packet_in}
-use Rattle.printing.specs.Append.{Appended}
-use Rattle.text_writer.proofs.TextLines.{lines_to, lines_none, lines-room, lines_more, lines-all}
+use Rattle.text_writer.proofs.TextLines.{lines_none, lines-room, lines_more, lines-all}
 use Rattle.text_writer.proofs.append_lines.Goals as goal
 
 pub loop-i-init : goal.loop-i-init

@@ -1,10 +1,8 @@
 -- `text_writer::append_lines` meets its contract. Assumes nothing.
 use Prim.Native.Nat.{◌-◌, ◌≤◌}
-use native.Mathlib.Omega.{arith}
-use borrow.Author.Rules.{rules}
 use Rattle.pack.specs.Packets.{packet_in}
 use Rattle.printing.specs.Append.{Appended}
-use Rattle.text_writer.proofs.TextLines.{lines_to, lines_none, lines-room, lines_more, lines-all}
+use Rattle.text_writer.proofs.TextLines.{lines_to}
 use Rattle.text_writer.proofs.append_lines.Given as goal
 
 abbrev pub invariant-loop-i : goal.invariant-loop-i

@@ -1,5 +1,4 @@
 -- `text_writer::first_length` meets its contract. Assumes nothing.
-use borrow.Author.Rules.{rules}
 use native.Mathlib.Omega.{arith}
 use Rattle.text_writer.proofs.TextLines.{first_line-length}
 use Rattle.text_writer.proofs.first_length.Goals as goal

@@ -1,5 +1,4 @@
 -- `text_writer::put_text` meets its contract. Assumes nothing.
-use borrow.Author.Rules.{rules}
 use Rattle.text.specs.Form.{first_line}
 use Rattle.text_writer.proofs.TextLines.{text-room, text-whole}
 use Rattle.text_writer.proofs.put_text.Goals as goal

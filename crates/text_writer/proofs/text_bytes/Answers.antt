@@ -1,5 +1,4 @@
 -- `text_writer::text_bytes` meets its contract. Assumes nothing.
-use borrow.Author.Rules.{rules}
 use Rattle.answer.specs.Values.{and_then, checked}
 use Rattle.answer.proofs.Values.{then-refused}
 use Rattle.pack.specs.Reading.{plain_air_of}

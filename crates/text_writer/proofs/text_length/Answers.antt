@@ -1,11 +1,10 @@
 -- `text_writer::text_length` meets its contract. Assumes nothing.
 use mathlib.Core.Path.{◌≡◌, ap}
-use Prim.Native.Nat.{ℕ, ◌+◌, ◌-◌, ◌*◌, ◌^◌, ◌≤◌, ◌<◌}
+use Prim.Native.Nat.{ℕ, ◌^◌, ◌<◌}
 use native.Mathlib.Omega.{arith}
 use lib.ListN.{length}
 use Rattle.pack.specs.Packets.{packet_in}
 use Rattle.pack.proofs.Sound.{air-sound}
-use Rattle.text.specs.Form.{first_line}
 use Rattle.text_writer.proofs.TextLines.{first_line-le, lines_to, lines_to-more, text_in-length}
 use Rattle.text_writer.proofs.text_length.Goals as goal
 
@@ -21,7 +20,7 @@ line_length-len-requires c = (c.requires, omega arith)
 
 pub overflow_add-len : goal.overflow_add-len
 overflow_add-len c =
-    let few : c.args.s.count < 2 ^ 32 = (air-sound _ _ _ c.requires).few (λ k. omega (arith, c.shared_slice_known-1.given k)) in
+    let few : c.args.s.count < 2 ^ 32 = (air-sound _ _ _ c.requires).few (λ k. omega (arith, c.type_inv.air k)) in
     omega (arith, c.line_length-len.ensures.1)
 
 pub loop-i-preserved : goal.loop-i-preserved

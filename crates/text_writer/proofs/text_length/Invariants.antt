@@ -1,12 +1,10 @@
 -- `text_writer::text_length` meets its contract. Assumes nothing.
-use mathlib.Core.Path.{◌≡◌, ap}
-use Prim.Native.Nat.{ℕ, ◌+◌, ◌-◌, ◌*◌, ◌^◌, ◌≤◌, ◌<◌}
-use native.Mathlib.Omega.{arith}
+use mathlib.Core.Path.{◌≡◌}
+use Prim.Native.Nat.{◌+◌, ◌-◌, ◌*◌, ◌≤◌}
 use lib.ListN.{length}
 use Rattle.pack.specs.Packets.{packet_in}
-use Rattle.pack.proofs.Sound.{air-sound}
 use Rattle.text.specs.Form.{first_line}
-use Rattle.text_writer.proofs.TextLines.{first_line-le, lines_to, lines_to-more, text_in-length}
+use Rattle.text_writer.proofs.TextLines.{lines_to}
 use Rattle.text_writer.proofs.text_length.Given as goal
 
 abbrev pub invariant-loop-i : goal.invariant-loop-i

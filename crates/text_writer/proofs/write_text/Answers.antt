@@ -1,5 +1,4 @@
 -- `text_writer::write_text` meets its contract. Assumes nothing.
-use borrow.Author.Rules.{rules}
 use Rattle.pack.proofs.Sound.{air-told, air-refused}
 use Rattle.text_writer.proofs.TextLines.{text-unread}
 use Rattle.text_writer.proofs.write_text.Goals as goal
