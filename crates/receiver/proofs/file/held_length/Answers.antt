@@ -1,0 +1,22 @@
+-- `held_length` reads the first four bytes of the data string, low first.
+use native.Mathlib.Omega.{arith}
+use borrow.Author.Rules.{rules}
+use Rattle.cursor.specs.Steps.{word}
+use Rattle.receiver.proofs.HeldFile.{read_told}
+use Rattle.receiver.proofs.file.held_length.Goals as goal
+
+pub returns : goal.returns
+unfolding word
+returns c =
+    let copy = read_told _ _ _ _ _ _ _ _ c.requires.0 c.requires.1 c.requires.2 (omega arith) c.read_data.ensures in
+    omega (
+      arith,
+      copy.copied 0 (omega arith),
+      copy.copied 1 (omega arith),
+      copy.copied 2 (omega arith),
+      copy.copied 3 (omega arith),
+      c.wide-4.ensures.0,
+      c.wide-3.ensures.0,
+      c.wide-2.ensures.0,
+      c.wide.ensures.0,
+    )

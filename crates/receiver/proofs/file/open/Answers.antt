@@ -1,0 +1,31 @@
+-- `open` refuses a length above the buffer and a byte behind the file, and else copies the file.
+use native.Mathlib.Omega.{arith}
+use borrow.Author.Rules.{rules}
+use borrow.Author.Tests.{not-true, not-false}
+use Rattle.receiver.specs.Inner.File.{opening_value}
+use Rattle.receiver.proofs.HeldFile.{held_small, read_told, opened-long, opened-later, opened-held}
+use Rattle.receiver.proofs.file.open.Goals as goal
+
+pub held_length-n-requires : goal.held_length-n-requires
+held_length-n-requires c = (c.requires.0, c.requires.1, c.requires.2)
+
+pub returns-then-buffer-n : goal.returns-then-buffer-n
+unfolding opening_value
+returns-then-buffer-n c =
+    opened-long _ _ _ c.requires.3 _ c.held_length-n.ensures c.if-buffer-n.true
+
+pub zero_behind-requires : goal.zero_behind-requires
+zero_behind-requires c = (c.requires.0, c.requires.1)
+
+pub returns-then-not-zero_behind : goal.returns-then-not-zero_behind
+unfolding opening_value
+returns-then-not-zero_behind c =
+    opened-later _ _ _ c.requires.3 _ c.held_length-n.ensures _ c.zero_behind.ensures c.if-not-zero_behind.true
+
+pub returns : goal.returns
+unfolding opening_value
+returns c =
+    let fits = c.if-buffer-n.false in
+    let copy = read_told _ _ _ _ _ _ _ _ c.requires.0 c.requires.1 (omega (arith, c.requires.2, c.requires.3)) (omega arith) c.read_data.ensures in
+    opened-held _ _ _ c.requires.3 _ c.held_length-n.ensures _ c.zero_behind.ensures _
+    (held_small _ _ (λ p. omega (arith, c.shared_slice_known-1.given p))) c.requires.2 (omega arith) c.if-not-zero_behind.false copy
