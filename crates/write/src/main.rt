@@ -1,26 +1,36 @@
 // Write: reads a job pack on standard input and writes the air pack of its file, or says why not.
 #![tactic(auto)]
 
-ghost use Rattle.std.specs.Prelude.{◌≡◌, ◌≤◌, length, take};
+ghost use Rattle.std.specs.Prelude.{◌≡◌, ◌≤◌, length, take, OnOk};
 ghost use Rattle.io.specs.Counts.{IsPrefixLen};
 ghost use Rattle.answer.specs.Values.{passes};
 ghost use Rattle.pack.specs.declared.Section.{Section};
 ghost use Rattle.pack.specs.Reading.{job_of};
 ghost use Rattle.write.specs.Prints.{Prints};
+ghost use Rattle.write.specs.Writes.{Writes};
 
-use libc::{STDIN_FILENO, STDOUT_FILENO};
 use pack::{Header, JobRead};
 use pack_writer::PackSize;
 use printing::LIMIT;
+use std::alloc::Global;
+use std::io;
+use std::io::{Read, Write};
 
-// One byte more than an input may have is read, so that a longer one is told. What is written is one piece, which `print` names.
-fn main() {
-    let mut input = [0u8; LIMIT + 1];
-    let n = io::read_full(STDIN_FILENO, &mut input);
-    let mut cube = io::large_buffer();
-    let mut output = io::large_buffer();
-    let end = print(&input[..n], &mut cube, &mut output);
-    io::write_all(STDOUT_FILENO, &output[..end]);
+fn main(rt: HostRuntime) -> io::Result<()> {
+    run(rt.alloc(), rt.stdin(), &mut rt.stdout())
+}
+
+// Reads an input and writes what the program prints for it. One byte more than an input may have is read, so that a longer one is told.
+fn run<R: Read + Drop, W: Write>(alloc: Global, from: R, to: &mut W) -> io::Result<()>
+    ensures { OnOk result (Writes (R.remaining from) (W.contents to.old) (W.contents to.new)) }
+{
+    let mut input = Vec::new(alloc);
+    from.take(LIMIT as u64 + 1).read_to_end(&mut input)?;
+    let mut cube = vec![in alloc; 0u8; LIMIT]?;
+    let mut buffer = vec![in alloc; 0u8; LIMIT]?;
+    let output = buffer.as_mut_slice();
+    let end = print(&input, &mut cube, output);
+    to.write_all(&output[..end])
 }
 
 // Puts what the program prints for an input at the start of `output`, and answers where it ends.

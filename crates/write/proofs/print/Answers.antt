@@ -1,0 +1,22 @@
+-- `write::print` meets its contract. Assumes nothing.
+use native.Mathlib.Omega.{arith}
+use Rattle.pack.proofs.Sound.{job-told, job-refused}
+use Rattle.write.proofs.Printed.{input-too-big-printed, refused-printed}
+use Rattle.write.proofs.print.Goals as goal
+
+pub returns-then-job-gt-LIMIT : goal.returns-then-job-gt-LIMIT
+returns-then-job-gt-LIMIT c =
+    let (counts, prints) = input-too-big-printed c.args.job.now _ _ _ c.requires.1 c.append.ensures (omega arith) in
+    record { prefix_len = counts; prints = prints }
+
+pub print_pack-requires : goal.print_pack-requires
+print_pack-requires c =
+    let p = c.requires in
+    (p.0, p.1, c.if-job-gt-LIMIT.false, (_, job-told _ _ c.read_job.ensures _ _ c.in-Job.is))
+
+pub returns-in-Refused : goal.returns-in-Refused
+returns-in-Refused c =
+    let (counts, prints)
+    = refused-printed _ _ _ _ c.requires.1 c.if-job-gt-LIMIT.false _ _ c.append_refused.ensures c.number.ensures
+    (job-refused _ _ c.read_job.ensures _ c.in-Refused.is) in
+    record { prefix_len = counts; prints = prints }
