@@ -1,0 +1,13 @@
+-- `jibrufath::cubes::jibrufath_mend` meets its contract: the call names no place.
+use mathlib.Core.Path.{sym, ◌∙◌}
+use borrow.Author.Rules.{rules}
+use Rattle.jibrufath.specs.Exports.{shape, uncounted}
+use Rattle.jibrufath.proofs.Words.{packed-alone}
+use Rattle.jibrufath.proofs.Places.{mend-places}
+use Rattle.jibrufath.proofs.cubes.jibrufath_mend.Goals as goal
+
+pub returns : goal.returns
+unfolding shape
+returns c =
+    let o = c.mend.ensures in
+    record { value = _; outcome = o; word_packed = c.word.ensures ∙ sym (packed-alone uncounted _ (mend-places o)) }

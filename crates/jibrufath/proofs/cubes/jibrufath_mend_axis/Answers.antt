@@ -1,0 +1,13 @@
+-- `jibrufath::cubes::jibrufath_mend_axis` meets its contract: the call names no place.
+use mathlib.Core.Path.{sym, ◌∙◌}
+use borrow.Author.Rules.{rules}
+use Rattle.jibrufath.specs.Exports.{shape, uncounted}
+use Rattle.jibrufath.proofs.Words.{packed-alone}
+use Rattle.jibrufath.proofs.Places.{axis-places}
+use Rattle.jibrufath.proofs.cubes.jibrufath_mend_axis.Goals as goal
+
+pub returns : goal.returns
+unfolding shape
+returns c =
+    let o = c.mend_axis.ensures in
+    record { value = _; outcome = o; word_packed = c.word.ensures ∙ sym (packed-alone uncounted _ (axis-places o)) }

@@ -1,0 +1,12 @@
+-- `jibrufath::plans::jibrufath_measure_plan` meets its contract.
+use native.Mathlib.Omega.{arith}
+use Prim.Native.Nat.{ℕ}
+use Rattle.jibrufath.proofs.PlanBounds.{measure-plan-lt}
+use borrow.Author.Rules.{rules}
+use Rattle.jibrufath.proofs.plans.jibrufath_measure_plan.Goals as goal
+
+pub read_word-requires : goal.read_word-requires
+read_word-requires c = measure-plan-lt _ c.measure_plan-read.ensures (λ (i : ℕ). omega (arith, c.shared_slice_known-1.given i))
+
+pub returns : goal.returns
+returns c = record { value = _; outcome = c.measure_plan-read.ensures; word_packed = c.read_word.ensures; entries_placed = c.read_entries.ensures }
