@@ -1,5 +1,4 @@
 -- `complete` refuses by the checks and changes nothing, or leaves the code cube of the data that stands in the cube.
-use borrow.Author.Rules.{rules}
 use Rattle.field.proofs.Primitive.{primitive}
 use Rattle.data.proofs.Checks.{cube-checked-done}
 use Rattle.answer.specs.Values.{answer_value}

@@ -1,5 +1,4 @@
 -- `encode` refuses by the checks and changes nothing, or leaves the code cube of the data.
-use borrow.Author.Rules.{rules}
 use Rattle.field.proofs.Primitive.{primitive}
 use Rattle.data.proofs.Checks.{checked-done}
 use Rattle.answer.specs.Values.{answer_value}

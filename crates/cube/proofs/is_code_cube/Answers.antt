@@ -1,5 +1,4 @@
 -- `cube::is_code_cube` meets its contract. Assumes nothing.
-use borrow.Author.Rules.{rules}
 use Rattle.answer.proofs.Values.{answer-passed}
 use Rattle.cube.specs.Calls.{check_value, check_done}
 use Rattle.data.proofs.Checks.{cube-checked-done}

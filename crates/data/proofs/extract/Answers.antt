@@ -1,6 +1,5 @@
 -- `extract` refuses by the checks and changes nothing, or leaves the data string of the cube.
 use native.Mathlib.Omega.{arith}
-use borrow.Author.Rules.{rules}
 use Rattle.data.proofs.Checks.{checked-done}
 use Rattle.answer.specs.Values.{answer_value}
 use Rattle.answer.proofs.Values.{answer-passed}

@@ -1,5 +1,4 @@
 -- `read_data` refuses by the checks and changes nothing, or copies the bytes asked for.
-use borrow.Author.Rules.{rules}
 use Rattle.answer.specs.Values.{answer_value}
 use Rattle.answer.proofs.Values.{answer-passed}
 use Rattle.data.specs.Calls.{read_done}

@@ -1,6 +1,5 @@
 -- `set_data` refuses by the checks and changes nothing, or sets the data string from a byte on.
 use mathlib.Core.Path.{◌≡◌, ap, ◌∙◌}
-use borrow.Author.Rules.{rules}
 use borrow.Author.Tests.{ne_eqb}
 use Rattle.answer.specs.Refusals.{fault_number}
 use Rattle.answer.specs.Values.{passes, and_then, check, checked, refusal, answer_value}

@@ -1,6 +1,5 @@
 -- `data::slices_fit` meets its contract. Assumes nothing.
 use mathlib.Core.Logic.{⊎_elim}
-use borrow.Author.Rules.{rules}
 use borrow.Author.Tests.{eq-eqb, ne_eqb}
 use Rattle.answer.specs.Refusals.{fault_number}
 use Rattle.answer.specs.Values.{and_then, check, checked, refusal, answer_value}

@@ -1,7 +1,6 @@
 -- `data::spans_fit` meets its contract. Assumes nothing.
 use mathlib.Core.Path.{◌≡◌, sym, ◌∙◌}
-use borrow.Author.Rules.{rules}
-use borrow.Author.Tests.{eq-eqb, ne_eqb, not-true, not-false}
+use borrow.Author.Tests.{eq-eqb, ne_eqb}
 use Rattle.answer.specs.Refusals.{fault_number}
 use Rattle.answer.specs.Values.{passes, and_then, check, checked, refusal, answer_value}
 use Rattle.answer.proofs.Values.{then-refused}

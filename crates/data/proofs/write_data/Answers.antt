@@ -1,5 +1,4 @@
 -- `write_data` refuses by the checks and changes nothing, or writes the bytes given.
-use borrow.Author.Rules.{rules}
 use Rattle.answer.specs.Values.{answer_value}
 use Rattle.answer.proofs.Values.{answer-passed}
 use Rattle.data.specs.Calls.{write_done}

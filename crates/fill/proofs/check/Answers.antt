@@ -2,12 +2,10 @@
 use mathlib.Core.Path.{◌≡◌, sym, ◌∙◌}
 use mathlib.Core.Logic.{inl, inr, ⊎_elim}
 use mathlib.Core.Bool.{true, false}
-use borrow.Author.Tests.{eqb-true, eqb-false, not-true, not-false}
 use Rattle.answer.specs.Values.{passes}
 use Rattle.shape.specs.Shapes.{shape_checked}
 use Rattle.shape.proofs.Valid.{measure-fits}
 use Rattle.fill.proofs.Checks.{checked-shape, checked-length, checked-flags}
-use borrow.Author.Rules.{rules}
 use Rattle.fill.proofs.check.Goals as goal
 use Rattle.fill.proofs.check.Goals.{After-struct_known-1}
 

@@ -1,11 +1,9 @@
 -- `fill::fill` refuses what the checks refuse, checks a cube with no cell missing, and fills any other.
 use mathlib.Core.Path.{◌≡◌, sym, ◌∙◌}
-use borrow.Author.Rules.{rules}
 use lib.ListN.{length}
 use Rattle.answer.specs.Values.{passes}
 use Rattle.answer.proofs.Values.{answer-passed}
 use Rattle.fill.specs.Fill.{flags_checked}
-use Rattle.peel.specs.Peel.{Sized}
 use Rattle.fill.proofs.Checks.{done-sized}
 use Rattle.fill.proofs.Outcome.{fill-unfit}
 use Rattle.fill.proofs.Whole.{whole-outcome}

@@ -1,6 +1,5 @@
 -- `fill::fill_missing` leaves the filling where one exists, and else says 13 and leaves the missing cells 00h.
 use native.Mathlib.Omega.{arith}
-use borrow.Author.Rules.{rules}
 use Rattle.field.specs.Field.{reduction}
 use Rattle.peel.specs.Peel.{Sized, Peeled}
 use Rattle.fill.proofs.Checks.{done-sized}

@@ -3,7 +3,6 @@ use mathlib.Core.Path.{ap}
 use Rattle.answer.specs.Values.{answer_value, number_of}
 use Rattle.jibrufath.specs.Exports.{uncounted, beside, packed}
 use Rattle.jibrufath.proofs.Words.{refused-place, refused-packed}
-use borrow.Author.Rules.{rules}
 use Rattle.jibrufath.proofs.answer_word.Goals as goal
 
 pub returns-in_default : goal.returns-in_default

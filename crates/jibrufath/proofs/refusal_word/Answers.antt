@@ -2,7 +2,6 @@
 use Prim.Native.Nat.{◌≤◌}
 use native.Mathlib.Omega.{arith}
 use Rattle.jibrufath.proofs.Told.{tabled-number, refusal-tabled}
-use borrow.Author.Rules.{rules}
 use Rattle.jibrufath.proofs.refusal_word.Goals as goal
 
 pub overflow_add-result : goal.overflow_add-result

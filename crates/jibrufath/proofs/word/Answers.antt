@@ -1,5 +1,4 @@
 -- `jibrufath::word` meets its contract.
-use borrow.Author.Rules.{rules}
 use Rattle.answer.specs.Values.{answer_value, number_of}
 use Rattle.jibrufath.proofs.word.Goals as goal
 

@@ -1,6 +1,5 @@
 -- `line::codewords` decides whether the run lies inside and all its lines are codewords.
 use Rattle.span.proofs.Decision.{decides-no, decides-map, decides-false, decides-true}
-use borrow.Author.Rules.{rules}
 use Rattle.line.proofs.codewords.Goals as goal
 
 pub returns-then-not-inside : goal.returns-then-not-inside

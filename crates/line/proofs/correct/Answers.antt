@@ -1,7 +1,6 @@
 -- `line::correct` corrects the lines of a run that lies inside.
 use mathlib.Core.Path.{refl}
 use Rattle.span.proofs.Decision.{decides-false, decides-true, cases_done, cases-refused}
-use borrow.Author.Rules.{rules}
 use Rattle.line.proofs.correct.Goals as goal
 
 pub returns-then-not-inside : goal.returns-then-not-inside

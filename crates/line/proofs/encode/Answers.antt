@@ -5,7 +5,6 @@ use lib.ListN.{length}
 use Rattle.line.specs.Run.{Inside, Feeds}
 use Rattle.span.proofs.Decision.{decides-false, decides-true, cases_done, cases-refused}
 use Rattle.line.proofs.Encoding.{parity-erasures}
-use borrow.Author.Rules.{rules}
 use Rattle.line.proofs.encode.Goals as goal
 use Rattle.line.proofs.encode.Goals.{Else-from-to-2}
 

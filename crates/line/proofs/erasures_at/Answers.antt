@@ -1,6 +1,5 @@
 -- `line::erasures_at` inverts the array of two erasures once for all lines.
 use Rattle.line.proofs.Rows.{row-erasures}
-use borrow.Author.Rules.{rules}
 use Rattle.line.proofs.erasures_at.Goals as goal
 
 pub returns : goal.returns

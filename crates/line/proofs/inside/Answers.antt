@@ -2,7 +2,6 @@
 use native.Mathlib.Omega.{arith}
 use Rattle.span.proofs.Decision.{decides-yes, decides-no, decides-le}
 use Rattle.line.proofs.Geometry.{inside-last, inside_one, inside-first, inside-quotient, quotient-inside}
-use borrow.Author.Rules.{rules}
 use Rattle.line.proofs.inside.Goals as goal
 
 pub returns-then-len-lt1 : goal.returns-then-len-lt1

@@ -2,7 +2,6 @@
 use mathlib.Core.Path.{refl}
 use native.Mathlib.Omega.{arith}
 use Rattle.span.proofs.Decision.{decides-false, decides-true, cases_done, cases-refused}
-use borrow.Author.Rules.{rules}
 use Rattle.line.proofs.solve.Goals as goal
 
 pub returns-then-not-inside : goal.returns-then-not-inside

@@ -1,7 +1,6 @@
 -- `plan::answer` meets its contract.
 use Rattle.receiver.specs.Gathering.{no_counts}
 use Rattle.plan.specs.Inner.Answers.{answer_of}
-use borrow.Author.Rules.{rules}
 use Rattle.plan.proofs.answer.Goals as goal
 
 pub returns-in-Counted : goal.returns-in-Counted

@@ -2,7 +2,6 @@
 use native.Mathlib.Omega.{arith}
 use Rattle.span.proofs.Decision.{decides-false, decides-true}
 use Rattle.plan.proofs.Answers.{counted-end, read_refused, read-unfit, read_told}
-use borrow.Author.Rules.{rules}
 use Rattle.plan.proofs.read_plan.Goals as goal
 
 pub room-requires : goal.room-requires

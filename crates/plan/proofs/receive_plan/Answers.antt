@@ -2,7 +2,6 @@
 use mathlib.Core.Path.{ap}
 use Rattle.receiver.specs.Receive.{ending_value}
 use Rattle.plan.proofs.Passing.{file-inside, file-read, left_passed, refused-passed}
-use borrow.Author.Rules.{rules}
 use Rattle.plan.proofs.receive_plan.Goals as goal
 
 pub slice_bounds-read_plan-end : goal.slice_bounds-read_plan-end

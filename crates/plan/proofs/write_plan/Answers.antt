@@ -1,7 +1,6 @@
 -- `plan::write_plan` meets its contract.
 use Rattle.span.proofs.Decision.{decides-false, decides-true}
 use Rattle.plan.proofs.Answers.{write-unfit, write_refused, write-told}
-use borrow.Author.Rules.{rules}
 use Rattle.plan.proofs.write_plan.Goals as goal
 
 pub returns-then-not-fits : goal.returns-then-not-fits

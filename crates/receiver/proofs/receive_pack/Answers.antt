@@ -1,11 +1,7 @@
 -- `receive_pack` reads the pack, checks the slices, gathers, and opens the file of a whole cube.
-use borrow.Author.Rules.{rules}
 use mathlib.Core.Path.{◌≡◌, ◌∙◌}
-use borrow.Author.Tests.{not-true, not-false}
 use Rattle.answer.specs.Values.{passes}
 use Rattle.shape.specs.Shapes.{sizes}
-use Rattle.pack.specs.declared.Header.{Header}
-use Rattle.pack.specs.declared.Section.{Section}
 use Rattle.pack.proofs.Sound.{air-told, air-sound}
 use Rattle.receiver.specs.Receive.{lent, receive_checked}
 use Rattle.receiver.proofs.Outcomes.{accepted-ready, received-refused, received-sizes, received-accepted, received-ended, received-file, received-bad}

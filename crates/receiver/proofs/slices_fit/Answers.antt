@@ -1,7 +1,6 @@
 -- `slices_fit` asks the three lengths in turn.
 use Rattle.shape.specs.Shapes.{both}
 use borrow.Author.Tests.{eq-eqb, ne_eqb}
-use borrow.Author.Rules.{rules}
 use Rattle.receiver.proofs.slices_fit.Goals as goal
 
 pub returns-then-flags-z : goal.returns-then-flags-z

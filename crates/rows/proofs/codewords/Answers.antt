@@ -1,7 +1,6 @@
 -- `rows::codewords` decides whether all rows are right, in strips where they are narrow and many, else one by one.
 use Prim.Native.Nat.{◌-◌}
 use native.Mathlib.Omega.{arith}
-use borrow.Author.Tests.{leb-true}
 use Rattle.span.proofs.Decision.{decides-yes, decides-no, decides-false, decides-true}
 use Rattle.rows.proofs.Moving.{row-begins}
 use Rattle.rows.proofs.codewords.Goals as goal

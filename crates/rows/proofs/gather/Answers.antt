@@ -1,9 +1,9 @@
 -- `rows::gather` copies byte after byte into an array of zeros.
-use mathlib.Core.Path.{◌≡◌, refl, ◌∙◌}
-use Prim.Native.Nat.{◌+◌, ◌-◌, ◌*◌, ◌≤◌, ◌<◌}
+use mathlib.Core.Path.{refl, ◌∙◌}
+use Prim.Native.Nat.{◌+◌, ◌*◌, ◌<◌}
 use native.Mathlib.Omega.{arith}
-use lib.ListN.{length, get_or}
-use Rattle.strip.proofs.Updated.{Updated, updated_none, updated-more}
+use lib.ListN.{length}
+use Rattle.strip.proofs.Updated.{updated_none, updated-more}
 use Rattle.rows.proofs.Moving.{gaps-below}
 use Rattle.rows.proofs.gather.Goals as goal
 use Rattle.rows.proofs.gather.Goals.{In-loop-t}

@@ -1,10 +1,8 @@
 -- `rows::gather` copies byte after byte into an array of zeros.
-use mathlib.Core.Path.{◌≡◌, refl, ◌∙◌}
-use Prim.Native.Nat.{◌+◌, ◌-◌, ◌*◌, ◌≤◌, ◌<◌}
-use native.Mathlib.Omega.{arith}
+use mathlib.Core.Path.{◌≡◌}
+use Prim.Native.Nat.{◌+◌, ◌-◌, ◌*◌, ◌≤◌}
 use lib.ListN.{length, get_or}
-use Rattle.strip.proofs.Updated.{Updated, updated_none, updated-more}
-use Rattle.rows.proofs.Moving.{gaps-below}
+use Rattle.strip.proofs.Updated.{Updated}
 use Rattle.rows.proofs.gather.Given as goal
 
 abbrev pub invariant-loop-t : goal.invariant-loop-t

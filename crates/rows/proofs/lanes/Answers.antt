@@ -1,10 +1,10 @@
 -- `rows::lanes` decides whether 64 gathered lines are codewords: whether all their syndromes are 0.
 use mathlib.Core.Path.{◌≡◌}
-use Prim.Native.Nat.{◌+◌, ◌-◌, ◌*◌, ◌≤◌, ◌<◌}
+use Prim.Native.Nat.{◌+◌, ◌-◌, ◌*◌, ◌<◌}
 use native.Mathlib.Omega.{arith}
 use lib.ListN.{length}
 use Rattle.span.proofs.Decision.{decides-map}
-use Rattle.rows.proofs.Horner.{Lanes, lanes-none, lanes_step, zero-lanes, lanes-zero}
+use Rattle.rows.proofs.Horner.{lanes-none, lanes_step, zero-lanes, lanes-zero}
 use Rattle.rows.proofs.lanes.Goals as goal
 use Rattle.rows.proofs.lanes.Goals.{In-loop-left}
 

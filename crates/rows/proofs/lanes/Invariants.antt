@@ -1,10 +1,6 @@
 -- `rows::lanes` decides whether 64 gathered lines are codewords: whether all their syndromes are 0.
-use mathlib.Core.Path.{◌≡◌}
-use Prim.Native.Nat.{◌+◌, ◌-◌, ◌*◌, ◌≤◌, ◌<◌}
-use native.Mathlib.Omega.{arith}
-use lib.ListN.{length}
-use Rattle.span.proofs.Decision.{decides-map}
-use Rattle.rows.proofs.Horner.{Lanes, lanes-none, lanes_step, zero-lanes, lanes-zero}
+use Prim.Native.Nat.{◌≤◌}
+use Rattle.rows.proofs.Horner.{Lanes}
 use Rattle.rows.proofs.lanes.Given as goal
 
 abbrev pub invariant-loop-left : goal.invariant-loop-left

@@ -1,6 +1,5 @@
 -- `rows::moved` moves a run.
 use mathlib.Core.Path.{refl}
-use borrow.Author.Rules.{rules}
 use Rattle.rows.specs.Rows.{behind}
 use Rattle.rows.proofs.moved.Goals as goal
 

@@ -1,9 +1,8 @@
 -- `rows::one_by_one` decides whether all rows are right, row after row.
-use Prim.Native.Nat.{◌-◌, ◌≤◌}
+use Prim.Native.Nat.{◌-◌}
 use native.Mathlib.Omega.{arith}
 use borrow.Author.Count.{below_more}
 use Rattle.span.proofs.Decision.{decides-yes, decides-no, decides-false, decides-true}
-use Rattle.rows.specs.Rows.{AllRows}
 use Rattle.rows.proofs.Moving.{gaps-below}
 use Rattle.rows.proofs.one_by_one.Goals as goal
 

@@ -1,11 +1,7 @@
 -- `rows::strip_of_rows` decides whether the lines of 64 rows are codewords, byte after byte of their width.
 use Prim.Native.Nat.{ℕ, ◌-◌, ◌≤◌, ◌<◌}
-use native.Mathlib.Omega.{arith}
-use borrow.Author.Count.{below_more}
-use Rattle.span.proofs.Decision.{decides-yes, decides-no, decides-false, decides-true}
 use Rattle.rows.specs.Rows.{behind}
 use Rattle.rows.specs.Inner.{LanesRight}
-use Rattle.rows.proofs.Moving.{within-lanes, row-begins, lanes-rows, rows-lanes}
 use Rattle.rows.proofs.strip_of_rows.Given as goal
 
 abbrev pub invariant-loop-byte : goal.invariant-loop-byte

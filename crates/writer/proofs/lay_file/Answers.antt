@@ -2,7 +2,6 @@
 use native.Mathlib.Omega.{arith}
 use Rattle.pack.proofs.Sound.{capacity_le}
 use Rattle.writer.proofs.Outcomes.{file-laid}
-use borrow.Author.Rules.{rules}
 use Rattle.writer.proofs.lay_file.Goals as goal
 
 -- the file ends inside the cube

@@ -2,7 +2,6 @@
 use borrow.Author.Tests.{eq-eqb, ne_eqb}
 use Rattle.shape.specs.Shapes.{both}
 use Rattle.pack_writer.proofs.Outcomes.{written-given, written-refused}
-use borrow.Author.Rules.{rules}
 use Rattle.writer.proofs.slices_fit.Goals as goal
 
 pub returns-in_default : goal.returns-in_default

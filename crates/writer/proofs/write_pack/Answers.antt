@@ -3,7 +3,6 @@ use mathlib.Core.Path.{◌≡◌, sym, ◌∙◌}
 use Prim.Native.Nat.{ℕ, ◌*◌}
 use native.Mathlib.Omega.{arith}
 use lib.ListN.{length}
-use borrow.Author.Tests.{not-true, not-false}
 use Rattle.answer.specs.Values.{passes}
 use Rattle.field.proofs.Primitive.{primitive}
 use Rattle.shape.specs.Shapes.{cells}
@@ -12,7 +11,6 @@ use Rattle.pack.specs.Reading.{job_of}
 use Rattle.pack.proofs.Sound.{JobSound, sound-sent, job-told, job-refused, job-sound}
 use Rattle.pack_writer.proofs.Outcomes.{air-wrote}
 use Rattle.writer.proofs.Outcomes.{file-encoded, fits-parts, unread-job, unfit-slices, written-job}
-use borrow.Author.Rules.{rules}
 use Rattle.writer.proofs.write_pack.Goals as goal
 use Rattle.writer.proofs.write_pack.Goals.{Else-not-slices_fit, In-Job}
 

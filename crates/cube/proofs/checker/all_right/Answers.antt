@@ -2,8 +2,6 @@
 use mathlib.Core.Path.{sym, ◌∙◌}
 use mathlib.Core.Bool.{false≢true}
 use native.Mathlib.Omega.{arith}
-use borrow.Author.Rules.{rules}
-use borrow.Author.Tests.{not-true, not-false}
 use Rattle.shape.specs.Shapes.{lines_of}
 use Rattle.cube.proofs.AxisRuns.{lines-small}
 use Rattle.cube.proofs.RightLines.{code-axis, axes-code, axis3-blocks}

@@ -1,6 +1,5 @@
 -- `cube::checker::lines_right` meets its contract: the lines between two numbers are runs, one behind the other. Assumes nothing.
 use native.Mathlib.Omega.{arith}
-use borrow.Author.Rules.{rules}
 use Rattle.span.proofs.Decision.{decides-yes, decides-map}
 use Rattle.shape.proofs.Valid.{line-told, line_refused}
 use Rattle.cube.proofs.AxisRuns.{Begins, begins, lines-ended, run_from}

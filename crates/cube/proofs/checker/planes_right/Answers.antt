@@ -1,14 +1,13 @@
 -- `cube::checker::planes_right` meets its contract. The invariant: the rows and the columns of the planes below c are right. Assumes nothing.
 use mathlib.Core.Path.{◌≡◌, refl, sym, ◌∙◌}
-use Prim.Native.Nat.{◌+◌, ◌*◌, ◌≤◌, ◌-◌}
+use Prim.Native.Nat.{◌+◌, ◌*◌}
 use native.Mathlib.Nat.{suc-mul, zero-mul, mul_comm}
 use native.Mathlib.Omega.{arith}
 use mathlib.Core.Bool.{false≢true}
-use borrow.Author.Tests.{not-true, not-false}
 use Rattle.cube.proofs.AxisRuns.{lines-small}
 use Rattle.cube.proofs.RightLines.{right-fewer, right-append, right-none, rows-blocks, columns-blocks}
 use Rattle.shape.specs.Shapes.{lines_of}
-use Rattle.cube.specs.Inner.Checker.{Blocks, LinesRight}
+use Rattle.cube.specs.Inner.Checker.{Blocks}
 use Rattle.cube.proofs.checker.planes_right.Goals as goal
 use Rattle.cube.proofs.checker.planes_right.Goals.{In-loop-c}
 

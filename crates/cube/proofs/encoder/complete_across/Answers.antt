@@ -5,7 +5,7 @@ use native.Mathlib.Omega.{arith}
 use lib.ListN.{length}
 use Rattle.span.proofs.Stretches.{stretch-end}
 use Rattle.shape.specs.Shapes.{cells}
-use Rattle.cube.specs.Inner.Encoder.{plane_bytes, AcrossCompleted}
+use Rattle.cube.specs.Inner.Encoder.{plane_bytes}
 use Rattle.shape.proofs.Bounds.{Small, small}
 use Rattle.cube.proofs.Bytes.{rows-in-plane}
 use Rattle.cube.proofs.Completing.{across_run, outcome-solved}

@@ -1,15 +1,8 @@
 -- `complete_across` goes row by row: the lines of axis 3 through those below b are codewords, and every row of a data plane keeps its data cells.
-use mathlib.Core.Path.{◌≡◌, refl}
-use Prim.Native.Nat.{◌*◌, ◌-◌, ◌≤◌}
-use native.Mathlib.Omega.{arith}
+use mathlib.Core.Path.{◌≡◌}
+use Prim.Native.Nat.{◌-◌, ◌≤◌}
 use lib.ListN.{length}
-use Rattle.span.proofs.Stretches.{stretch-end}
-use Rattle.shape.specs.Shapes.{cells}
-use Rattle.cube.specs.Inner.Encoder.{plane_bytes, AcrossCompleted}
-use Rattle.shape.proofs.Bounds.{Small, small}
-use Rattle.cube.proofs.Bytes.{rows-in-plane}
-use Rattle.cube.proofs.Completing.{across_run, outcome-solved}
-use Rattle.cube.proofs.Encoding.{rows_to, rows-to-inside, across-completed-none, across-completed-more}
+use Rattle.cube.specs.Inner.Encoder.{AcrossCompleted}
 use Rattle.cube.proofs.encoder.complete_across.Given as goal
 
 abbrev pub invariant-loop-b : goal.invariant-loop-b

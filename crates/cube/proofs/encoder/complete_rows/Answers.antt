@@ -4,7 +4,6 @@ use Prim.Native.Nat.{◌+◌, ◌*◌, ◌-◌, ◌≤◌}
 use native.Mathlib.Omega.{arith}
 use lib.ListN.{length}
 use Rattle.span.proofs.Stretches.{stretch-end}
-use Rattle.cube.specs.Inner.Encoder.{RowsCompleted}
 use Rattle.shape.proofs.Bounds.{Small, small}
 use Rattle.cube.proofs.Bytes.{rows-in-plane}
 use Rattle.cube.proofs.Completing.{row_run, row_inside, outcome-solved}

@@ -1,7 +1,6 @@
 -- `encode_plane` completes the data columns, then every row.
 use Prim.Native.Nat.{◌-◌}
 use native.Mathlib.Omega.{arith}
-use borrow.Author.Rules.{rules}
 use lib.ListN.{length}
 use Rattle.shape.proofs.Bounds.{Small, small}
 use Rattle.cube.proofs.Completing.{columns_run, columns-inside, outcome-solved}

@@ -1,9 +1,9 @@
 -- `encode_planes` goes plane by plane: those below c are coded, and the others are as before.
 use mathlib.Core.Path.{◌≡◌, refl, ◌∙◌}
-use Prim.Native.Nat.{◌+◌, ◌*◌, ◌-◌, ◌≤◌}
+use Prim.Native.Nat.{◌+◌, ◌*◌, ◌≤◌}
 use native.Mathlib.Omega.{arith}
 use lib.ListN.{length}
-use Rattle.cube.specs.Inner.Encoder.{plane_bytes, PlanesCoded}
+use Rattle.cube.specs.Inner.Encoder.{plane_bytes}
 use Rattle.shape.proofs.Bounds.{Small, small}
 use Rattle.cube.proofs.Bytes.{plane-inside}
 use Rattle.cube.proofs.Lending.{lent_length}
@@ -42,8 +42,7 @@ encode_plane-requires c = (c.requires.0, lent_length _ _ _ (inside (goal.at.enco
 
 pub loop-c-preserved : goal.loop-c-preserved
 loop-c-preserved c =
-    let back = c.cube-1.given in
-    (
+    let back = c.cube-1.given in (
       omega arith,
       back.1 ∙ c.loop-c.invariant.1,
       planes-coded-more _ _ _ _ _ c.encode_plane.new.plane (inside (goal.at.loop-c-preserved c).In-loop-c) (back.0 ∙ lent_length _ _ _ (inside (goal.at.loop-c-preserved c).In-loop-c)) c.loop-c.invariant.2

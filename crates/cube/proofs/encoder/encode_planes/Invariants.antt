@@ -1,13 +1,8 @@
 -- `encode_planes` goes plane by plane: those below c are coded, and the others are as before.
-use mathlib.Core.Path.{◌≡◌, refl, ◌∙◌}
-use Prim.Native.Nat.{◌+◌, ◌*◌, ◌-◌, ◌≤◌}
-use native.Mathlib.Omega.{arith}
+use mathlib.Core.Path.{◌≡◌}
+use Prim.Native.Nat.{◌-◌, ◌≤◌}
 use lib.ListN.{length}
-use Rattle.cube.specs.Inner.Encoder.{plane_bytes, PlanesCoded}
-use Rattle.shape.proofs.Bounds.{Small, small}
-use Rattle.cube.proofs.Bytes.{plane-inside}
-use Rattle.cube.proofs.Lending.{lent_length}
-use Rattle.cube.proofs.Planes.{planes-coded-none, planes-coded-more}
+use Rattle.cube.specs.Inner.Encoder.{PlanesCoded}
 use Rattle.cube.proofs.encoder.encode_planes.Given as goal
 
 abbrev pub invariant-loop-c : goal.invariant-loop-c

@@ -1,6 +1,5 @@
 -- `data::place::next_row` steps over the parity cells of a row, and over the parity rows of a plane. Assumes nothing.
 use native.Mathlib.Omega.{arith}
-use borrow.Author.Rules.{rules}
 use Rattle.shape.proofs.Bounds.{Small, small}
 use Rattle.data.proofs.Placing.{standing-beside, standing-below}
 use Rattle.data.proofs.place.next_row.Goals as goal

@@ -2,7 +2,6 @@
 use Prim.Native.Nat.{◌*◌, ◌-◌, ◌/◌, ◌%◌, ◌<◌}
 use native.Mathlib.Nat.{mod-lt}
 use native.Mathlib.Omega.{arith}
-use borrow.Author.Rules.{rules}
 use Rattle.shape.proofs.Bounds.{small}
 use Rattle.data.proofs.Placing.{width-pos, Reach, reach, standing-at}
 use Rattle.data.proofs.place.stretch_at.Goals as goal

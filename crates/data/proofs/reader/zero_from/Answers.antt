@@ -1,13 +1,9 @@
 -- `data::reader::zero_from` goes stretch by stretch: the bytes from `from` on before q are 00h, and byte q begins a stretch. Assumes nothing.
-use mathlib.Core.Path.{◌≡◌, refl, sym, ◌∙◌}
+use mathlib.Core.Path.{refl, sym, ◌∙◌}
 use mathlib.Core.Bool.{false≢true}
-use Prim.Native.Nat.{ℕ, ◌+◌, ◌*◌, ◌-◌, ◌≤◌, ◌<◌}
+use Prim.Native.Nat.{◌+◌, ◌*◌, ◌≤◌, ◌<◌}
 use native.Mathlib.Omega.{arith}
-use borrow.Author.Rules.{rules}
-use borrow.Author.Tests.{not-true, not-false}
 use Rattle.shape.specs.Shapes.{cells, capacity}
-use Rattle.data.specs.Data.{data_of}
-use Rattle.data.specs.Inner.Place.{Standing}
 use Rattle.data.proofs.Placing.{standing-end, standing-inside}
 use Rattle.data.proofs.Reading.{zero_more, zero-stretch}
 use Rattle.data.proofs.reader.zero_from.Goals as goal

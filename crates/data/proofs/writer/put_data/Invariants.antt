@@ -1,16 +1,8 @@
 -- `data::writer::put_data` goes stretch by stretch: the bytes before `done` are copied, and the next one begins a stretch. Assumes nothing.
-use mathlib.Core.Path.{◌≡◌}
 use Prim.Native.Nat.{◌+◌, ◌-◌, ◌≤◌, ◌<◌}
-use native.Mathlib.Omega.{arith}
-use lib.ListN.{length}
-use borrow.Author.Rules.{rules}
 use Rattle.span.specs.Span.{Copied}
-use Rattle.span.proofs.Copying.{copied_none}
-use Rattle.shape.specs.Shapes.{capacity}
 use Rattle.data.specs.Data.{held_data, ParityKept}
 use Rattle.data.specs.Inner.Place.{Standing}
-use Rattle.data.proofs.Placing.{standing-same, standing-inside, smaller-pos}
-use Rattle.data.proofs.Writing.{parity-kept-none, parity-kept-trans, stretch-parity, write-more}
 use Rattle.data.proofs.writer.put_data.Given as goal
 
 abbrev pub invariant-loop-done : goal.invariant-loop-done

@@ -2,12 +2,8 @@
 use mathlib.Core.Path.{◌≡◌}
 use Prim.Native.Nat.{◌+◌, ◌*◌, ◌-◌, ◌≤◌, ◌<◌}
 use native.Mathlib.Omega.{arith}
-use borrow.Author.Rules.{rules}
-use Rattle.span.specs.Span.{SetTo}
 use Rattle.span.proofs.Setting.{set-none}
 use Rattle.shape.specs.Shapes.{cells, capacity}
-use Rattle.data.specs.Data.{held_data, ParityKept}
-use Rattle.data.specs.Inner.Place.{Standing}
 use Rattle.data.proofs.Placing.{standing-end, standing-inside}
 use Rattle.data.proofs.Writing.{parity-kept-none, parity-kept-trans, stretch-parity, set_more}
 use Rattle.data.proofs.writer.set_from.Goals as goal

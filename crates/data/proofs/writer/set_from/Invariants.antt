@@ -1,15 +1,8 @@
 -- `data::writer::set_from` goes stretch by stretch: the bytes from `from` on before q are set, and byte q begins a stretch. Assumes nothing.
-use mathlib.Core.Path.{◌≡◌}
-use Prim.Native.Nat.{◌+◌, ◌*◌, ◌-◌, ◌≤◌, ◌<◌}
-use native.Mathlib.Omega.{arith}
-use borrow.Author.Rules.{rules}
+use Prim.Native.Nat.{◌-◌, ◌≤◌, ◌<◌}
 use Rattle.span.specs.Span.{SetTo}
-use Rattle.span.proofs.Setting.{set-none}
-use Rattle.shape.specs.Shapes.{cells, capacity}
 use Rattle.data.specs.Data.{held_data, ParityKept}
 use Rattle.data.specs.Inner.Place.{Standing}
-use Rattle.data.proofs.Placing.{standing-end, standing-inside}
-use Rattle.data.proofs.Writing.{parity-kept-none, parity-kept-trans, stretch-parity, set_more}
 use Rattle.data.proofs.writer.set_from.Given as goal
 
 abbrev pub invariant-loop-q : goal.invariant-loop-q

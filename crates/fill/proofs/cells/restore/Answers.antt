@@ -1,15 +1,13 @@
 -- `fill::cells::restore` makes filled cells missing again and 00h.
 use mathlib.Core.Path.{◌≡◌, sym, ◌∙◌}
-use mathlib.Core.Logic.{⊎_elim}
-use Prim.Native.Nat.{◌+◌, ◌-◌, ◌*◌, ◌≤◌}
+use Prim.Native.Nat.{◌+◌, ◌*◌, ◌≤◌}
 use native.Mathlib.Omega.{arith}
-use borrow.Author.Rules.{rules}
 use borrow.Author.Tests.{eq-eqb, ne_eqb}
 use lib.ListN.{length}
 use Rattle.shape.specs.Shapes.{cells}
 use Rattle.shape.specs.Inner.Marks.{is_marked}
-use Rattle.fill.proofs.Clearing.{cell_room, ClearedTo, cleared-none, cleared-skip, cleared_more, cleared-all}
-use Rattle.shape.proofs.Marks.{RemarkedTo, remarked-none, remarked-flag, remarked-skip, remarked-more, remarked-all}
+use Rattle.fill.proofs.Clearing.{cell_room, cleared-none, cleared-skip, cleared_more, cleared-all}
+use Rattle.shape.proofs.Marks.{remarked-none, remarked-flag, remarked-skip, remarked-more, remarked-all}
 use Rattle.fill.proofs.cells.restore.Goals as goal
 use Rattle.fill.proofs.cells.restore.Goals.{After-set-arg-1, Joined-flags-n-eq3, then-flags-n-eq3, else-flags-n-eq3}
 

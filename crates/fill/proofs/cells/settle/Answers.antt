@@ -1,10 +1,9 @@
 -- `fill::cells::settle` makes filled cells known and counts the missing ones.
 use mathlib.Core.Path.{◌≡◌, sym}
-use mathlib.Core.Logic.{◌≢◌, ◌⊎◌, inl, inr, ⊎_elim}
-use Prim.Native.Nat.{◌+◌, ◌-◌, ◌≤◌}
+use mathlib.Core.Logic.{◌≢◌, ◌⊎◌, inl, inr}
+use Prim.Native.Nat.{◌+◌}
 use native.Mathlib.Omega.{arith}
 use lib.ListN.{length, get_or, set}
-use Rattle.stopping.specs.Stopping.{number}
 use Rattle.stopping.proofs.Number.{number-nil, number-le}
 use Rattle.shape.specs.Flags.{missing}
 use Rattle.shape.proofs.Marks.{RemarkedTo, remarked-none, remarked-turn, remarked-all}

@@ -1,14 +1,10 @@
 -- `fill::cells::settle` makes filled cells known and counts the missing ones.
-use mathlib.Core.Path.{◌≡◌, sym}
-use mathlib.Core.Logic.{◌≢◌, ◌⊎◌, inl, inr, ⊎_elim}
-use Prim.Native.Nat.{◌+◌, ◌-◌, ◌≤◌}
-use native.Mathlib.Omega.{arith}
-use lib.ListN.{length, get_or, set}
+use mathlib.Core.Path.{◌≡◌}
+use Prim.Native.Nat.{◌-◌, ◌≤◌}
+use lib.ListN.{length}
 use Rattle.stopping.specs.Stopping.{number}
-use Rattle.stopping.proofs.Number.{number-nil, number-le}
 use Rattle.shape.specs.Flags.{missing}
-use Rattle.shape.proofs.Marks.{RemarkedTo, remarked-none, remarked-turn, remarked-all}
-use Rattle.fill.proofs.Marks.{counted-in, counted-out}
+use Rattle.shape.proofs.Marks.{RemarkedTo}
 use Rattle.fill.proofs.cells.settle.Given as goal
 
 abbrev pub invariant-loop-n : goal.invariant-loop-n

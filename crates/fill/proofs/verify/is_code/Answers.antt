@@ -1,5 +1,4 @@
 -- `fill::verify::is_code` tells whether a cube of the shape's size is a code cube.
-use borrow.Author.Rules.{rules}
 use Rattle.cube.proofs.Checking.{check-answered, check-not-refused}
 use Rattle.fill.proofs.verify.is_code.Goals as goal
 

@@ -2,8 +2,6 @@
 -- cube is a code cube.
 use mathlib.Core.Path.{sym, ◌∙◌}
 use native.Mathlib.Omega.{arith}
-use borrow.Author.Rules.{rules}
-use borrow.Author.Tests.{not-false}
 use Rattle.fill.proofs.Lines.{code-right}
 use Rattle.fill.proofs.verify.verify.Goals as goal
 

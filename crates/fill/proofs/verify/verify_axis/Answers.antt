@@ -1,17 +1,15 @@
 -- `fill::verify::verify_axis` tells whether every line of an axis without a missing cell is a codeword in every layer.
 use mathlib.Core.Path.{◌≡◌}
-use Prim.Native.Nat.{◌-◌, ◌≤◌, ◌<◌}
+use Prim.Native.Nat.{◌<◌}
 use native.Mathlib.Omega.{arith}
-use borrow.Author.Rules.{rules}
 use Rattle.answer.specs.Values.{passes}
 use Rattle.shape.specs.Shapes.{lines_of, line_of}
 use Rattle.shape.proofs.Valid.{line-told}
 use Rattle.shape.proofs.Geometry.{line-found, axis-line-found, line-passed}
-use Rattle.field.specs.Field.{reduction}
-use Rattle.fill.specs.Inner.Verify.{Right, AxisRight}
+use Rattle.fill.specs.Inner.Verify.{AxisRight}
 use Rattle.span.proofs.Decision.{decides-yes, decides-no, decides-false, decides-true}
 use Rattle.cube.proofs.AxisRuns.{lines-small}
-use Rattle.fill.proofs.Lines.{Below, below_none, below_next, below_all}
+use Rattle.fill.proofs.Lines.{below_none, below_next, below_all}
 use Rattle.fill.proofs.verify.verify_axis.Goals as goal
 use Rattle.fill.proofs.verify.verify_axis.Goals.{In-Found}
 
@@ -40,9 +38,9 @@ returns-in_default c =
 
 pub verify_line-requires : goal.verify_line-requires
 verify_line-requires c = record {
-      sized = c.requires.sized;
-      line = line-found _ _ _ _ (found (goal.at.verify_line-requires c).In-Found);
-    }
+  sized = c.requires.sized;
+  line = line-found _ _ _ _ (found (goal.at.verify_line-requires c).In-Found);
+}
 
 pub returns-then-not-verify_line : goal.returns-then-not-verify_line
 unfolding AxisRight

@@ -1,17 +1,9 @@
 -- `fill::verify::verify_axis` tells whether every line of an axis without a missing cell is a codeword in every layer.
-use mathlib.Core.Path.{◌≡◌}
-use Prim.Native.Nat.{◌-◌, ◌≤◌, ◌<◌}
-use native.Mathlib.Omega.{arith}
-use borrow.Author.Rules.{rules}
-use Rattle.answer.specs.Values.{passes}
-use Rattle.shape.specs.Shapes.{lines_of, line_of}
-use Rattle.shape.proofs.Valid.{line-told}
-use Rattle.shape.proofs.Geometry.{line-found, axis-line-found, line-passed}
+use Prim.Native.Nat.{◌-◌, ◌≤◌}
+use Rattle.shape.specs.Shapes.{lines_of}
 use Rattle.field.specs.Field.{reduction}
-use Rattle.fill.specs.Inner.Verify.{Right, AxisRight}
-use Rattle.span.proofs.Decision.{decides-yes, decides-no, decides-false, decides-true}
-use Rattle.cube.proofs.AxisRuns.{lines-small}
-use Rattle.fill.proofs.Lines.{Below, below_none, below_next, below_all}
+use Rattle.fill.specs.Inner.Verify.{Right}
+use Rattle.fill.proofs.Lines.{Below}
 use Rattle.fill.proofs.verify.verify_axis.Given as goal
 
 abbrev pub invariant-loop-line : goal.invariant-loop-line

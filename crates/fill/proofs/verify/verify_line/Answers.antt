@@ -7,7 +7,6 @@ use Rattle.stopping.specs.Stopping.{on_line}
 use Rattle.erasures.proofs.Inside.{line-places}
 use Rattle.peel.proofs.Lines.{first-room, stride-room}
 use Rattle.fill.proofs.Lines.{neighbours-one, right-missing, right-codewords}
-use borrow.Author.Rules.{rules}
 use Rattle.fill.proofs.verify.verify_line.Goals as goal
 use Rattle.fill.proofs.verify.verify_line.Goals.{After-scan_line-e}
 

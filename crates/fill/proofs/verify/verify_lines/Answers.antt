@@ -1,7 +1,6 @@
 -- `fill::verify::verify_lines` tells whether every line without a missing cell is a codeword in every layer: the lines of the three axes are all lines.
 use Rattle.span.proofs.Decision.{decides-false, decides-true}
 use Rattle.fill.proofs.Lines.{axis-wrong, axis-last}
-use borrow.Author.Rules.{rules}
 use Rattle.fill.proofs.verify.verify_lines.Goals as goal
 
 pub returns-then-not-verify_axis : goal.returns-then-not-verify_axis

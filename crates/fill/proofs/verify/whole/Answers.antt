@@ -1,5 +1,4 @@
 -- `fill::verify::whole` answers that no cell is left, or 13 where the cube is no code cube.
-use borrow.Author.Rules.{rules}
 use Rattle.span.proofs.Decision.{decides-false}
 use Rattle.fill.proofs.Whole.{whole_code, whole-other}
 use Rattle.fill.proofs.verify.whole.Goals as goal

@@ -2,7 +2,6 @@
 use mathlib.Core.Path.{sym, ap, ◌∙◌}
 use Prim.Native.Nat.{◌≤◌}
 use native.Mathlib.Omega.{arith}
-use borrow.Author.Rules.{rules}
 use Rattle.fill.specs.Fill.{fill_value}
 use Rattle.fill.proofs.Recovery.{left_le, left-outcome}
 use Rattle.jibrufath.specs.Exports.{shape, cells_left}

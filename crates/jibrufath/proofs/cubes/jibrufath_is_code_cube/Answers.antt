@@ -1,6 +1,5 @@
 -- `jibrufath::cubes::jibrufath_is_code_cube` meets its contract: the check names no place.
 use mathlib.Core.Path.{sym, ap, ◌∙◌}
-use borrow.Author.Rules.{rules}
 use Rattle.cube.specs.Calls.{check_value}
 use Rattle.jibrufath.specs.Exports.{shape, truth}
 use Rattle.jibrufath.proofs.Words.{packed-refusal, packed-result}

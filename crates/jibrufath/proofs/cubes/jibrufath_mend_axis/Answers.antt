@@ -1,6 +1,5 @@
 -- `jibrufath::cubes::jibrufath_mend_axis` meets its contract: the call names no place.
 use mathlib.Core.Path.{sym, ◌∙◌}
-use borrow.Author.Rules.{rules}
 use Rattle.jibrufath.specs.Exports.{shape, uncounted}
 use Rattle.jibrufath.proofs.Words.{packed-alone}
 use Rattle.jibrufath.proofs.Places.{axis-places}

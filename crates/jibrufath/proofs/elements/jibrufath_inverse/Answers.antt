@@ -1,5 +1,4 @@
 -- `jibrufath::elements::jibrufath_inverse` meets its contract.
-use borrow.Author.Rules.{rules}
 use Rattle.jibrufath.proofs.elements.jibrufath_inverse.Goals as goal
 
 pub returns : goal.returns

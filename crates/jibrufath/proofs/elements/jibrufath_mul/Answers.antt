@@ -1,5 +1,4 @@
 -- `jibrufath::elements::jibrufath_mul` meets its contract.
-use borrow.Author.Rules.{rules}
 use Rattle.jibrufath.proofs.elements.jibrufath_mul.Goals as goal
 
 pub returns : goal.returns

@@ -1,5 +1,4 @@
 -- `jibrufath::elements::jibrufath_pow` meets its contract.
-use borrow.Author.Rules.{rules}
 use Rattle.jibrufath.proofs.elements.jibrufath_pow.Goals as goal
 
 pub returns : goal.returns

@@ -1,5 +1,4 @@
 -- `jibrufath::lines::jibrufath_scan` meets its contract.
-use borrow.Author.Rules.{rules}
 use Rattle.answer.proofs.Values.{checked-fails}
 use Rattle.erasures.proofs.Determined.{scan-told, scan-refused}
 use Rattle.jibrufath.specs.Exports.{shape, uncounted}

@@ -1,5 +1,4 @@
 -- `jibrufath::needs::jibrufath_needs` meets its contract.
-use borrow.Author.Rules.{rules}
 use Rattle.answer.proofs.Values.{checked-fails}
 use Rattle.pack.proofs.Sound.{header-told, header_refused, header-sound}
 use Rattle.jibrufath.specs.Needs.{needs_in}

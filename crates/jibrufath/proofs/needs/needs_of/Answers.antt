@@ -1,5 +1,4 @@
 -- `jibrufath::needs::needs_of` meets its contract: a header that was read has a valid shape, its sizes, and room for the file's length.
-use borrow.Author.Rules.{rules}
 use Rattle.shape.specs.Shapes.{sizes}
 use Rattle.pack.proofs.Sound.{sound-sent}
 use Rattle.pack_writer.proofs.Outcomes.{written-given, written-refused}

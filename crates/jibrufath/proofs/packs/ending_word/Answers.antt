@@ -1,6 +1,5 @@
 -- `jibrufath::packs::ending_word` meets its contract: a count below 2^32, times 256, fits a machine word.
 use native.Mathlib.Omega.{arith}
-use borrow.Author.Rules.{rules}
 use Rattle.jibrufath.proofs.Endings.{left-beside, refused-beside, file-word, left_word, refused-word}
 use Rattle.jibrufath.proofs.packs.ending_word.Goals as goal
 

@@ -1,5 +1,4 @@
 -- `jibrufath::packs::file_bytes` meets its contract.
-use borrow.Author.Rules.{rules}
 use Rattle.receiver.specs.Receive.{ending_value}
 use Rattle.jibrufath.specs.Packs.{file_bytes}
 use Rattle.jibrufath.proofs.Endings.{refused-file}

@@ -2,7 +2,6 @@
 use native.Mathlib.Omega.{arith}
 use Prim.Native.Nat.{ℕ}
 use Rattle.jibrufath.proofs.Places.{receive-place-lt}
-use borrow.Author.Rules.{rules}
 use Rattle.jibrufath.proofs.packs.jibrufath_receive_pack.Goals as goal
 
 pub ending_word-requires : goal.ending_word-requires

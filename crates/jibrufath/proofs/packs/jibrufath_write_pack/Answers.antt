@@ -1,6 +1,5 @@
 -- `jibrufath::packs::jibrufath_write_pack` meets its contract: the call names no place.
 use mathlib.Core.Path.{sym, ◌∙◌}
-use borrow.Author.Rules.{rules}
 use Rattle.jibrufath.specs.Exports.{uncounted}
 use Rattle.jibrufath.proofs.Words.{packed-alone}
 use Rattle.jibrufath.proofs.Places.{write-places}

@@ -1,6 +1,5 @@
 -- `jibrufath::packs::receive_counts` meets its contract.
 use Rattle.jibrufath.specs.Packs.{places}
-use borrow.Author.Rules.{rules}
 use Rattle.jibrufath.proofs.packs.receive_counts.Goals as goal
 
 pub returns : goal.returns

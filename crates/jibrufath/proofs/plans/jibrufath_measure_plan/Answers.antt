@@ -2,7 +2,6 @@
 use native.Mathlib.Omega.{arith}
 use Prim.Native.Nat.{ℕ}
 use Rattle.jibrufath.proofs.PlanBounds.{measure-plan-lt}
-use borrow.Author.Rules.{rules}
 use Rattle.jibrufath.proofs.plans.jibrufath_measure_plan.Goals as goal
 
 pub read_word-requires : goal.read_word-requires

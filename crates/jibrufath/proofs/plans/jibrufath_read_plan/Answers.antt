@@ -2,7 +2,6 @@
 use native.Mathlib.Omega.{arith}
 use Prim.Native.Nat.{ℕ}
 use Rattle.jibrufath.proofs.PlanBounds.{read-plan-lt}
-use borrow.Author.Rules.{rules}
 use Rattle.jibrufath.proofs.plans.jibrufath_read_plan.Goals as goal
 
 pub read_word-requires : goal.read_word-requires

@@ -2,7 +2,6 @@
 use native.Mathlib.Omega.{arith}
 use Prim.Native.Nat.{ℕ}
 use Rattle.jibrufath.proofs.PlanBounds.{receive-plan-lt}
-use borrow.Author.Rules.{rules}
 use Rattle.jibrufath.proofs.plans.jibrufath_receive_plan.Goals as goal
 
 pub ending_word-requires : goal.ending_word-requires

@@ -2,7 +2,6 @@
 use native.Mathlib.Omega.{arith}
 use Prim.Native.Nat.{ℕ}
 use Rattle.jibrufath.proofs.PlanBounds.{write-plan-lt}
-use borrow.Author.Rules.{rules}
 use Rattle.jibrufath.proofs.plans.jibrufath_write_plan.Goals as goal
 
 pub answer_word-requires : goal.answer_word-requires

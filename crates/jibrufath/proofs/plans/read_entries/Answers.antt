@@ -2,7 +2,6 @@
 use Rattle.plan_form.specs.Form.{plan_value}
 use Rattle.jibrufath.specs.Plans.{entries_in}
 use Rattle.jibrufath.proofs.Endings.{refused-entries}
-use borrow.Author.Rules.{rules}
 use Rattle.jibrufath.proofs.plans.read_entries.Goals as goal
 
 pub returns-in-Counted : goal.returns-in-Counted

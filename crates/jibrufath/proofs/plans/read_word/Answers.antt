@@ -4,7 +4,6 @@ use Rattle.answer.specs.Values.{number_of}
 use Rattle.plan_form.specs.Form.{plan_value}
 use Rattle.jibrufath.specs.Exports.{uncounted, beside, packed}
 use Rattle.jibrufath.proofs.Words.{refused-place, refused-packed}
-use borrow.Author.Rules.{rules}
 use Rattle.jibrufath.proofs.plans.read_word.Goals as goal
 
 pub refusal_word-requires : goal.refusal_word-requires

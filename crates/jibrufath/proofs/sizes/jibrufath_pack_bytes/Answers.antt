@@ -1,6 +1,5 @@
 -- `jibrufath::sizes::jibrufath_pack_bytes` meets its contract: the size of a pack, times 256, fits a machine word.
 use native.Mathlib.Omega.{arith}
-use borrow.Author.Rules.{rules}
 use Rattle.jibrufath.specs.Exports.{shape}
 use Rattle.jibrufath.proofs.Words.{checked-refusal, checked-result}
 use Rattle.jibrufath.proofs.SizeBounds.{size-told, size-refused, pack-size-le}

@@ -1,7 +1,6 @@
 -- `jibrufath::sizes::size_words` meets its contract: the sizes of a shape that passes, times 256, fit a machine word.
 use mathlib.Core.Path.{◌≡◌}
 use native.Mathlib.Omega.{arith}
-use borrow.Author.Rules.{rules}
 use Rattle.answer.specs.Values.{passes}
 use Rattle.shape.specs.Shapes.{shape_checked}
 use Rattle.shape.proofs.Valid.{measure-fits, measure-refused}

@@ -1,6 +1,5 @@
 -- `jibrufath::texts::jibrufath_read_text` meets its contract.
 use Rattle.jibrufath.proofs.TextBounds.{read-text-lt}
-use borrow.Author.Rules.{rules}
 use Rattle.jibrufath.proofs.texts.jibrufath_read_text.Goals as goal
 
 pub answer_word-requires : goal.answer_word-requires

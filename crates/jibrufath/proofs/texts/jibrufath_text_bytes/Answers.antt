@@ -3,7 +3,6 @@ use mathlib.Core.Path.{refl}
 use Prim.Native.Nat.{ℕ}
 use native.Mathlib.Omega.{arith}
 use Rattle.jibrufath.proofs.TextBounds.{text-size-lt}
-use borrow.Author.Rules.{rules}
 use Rattle.jibrufath.proofs.texts.jibrufath_text_bytes.Goals as goal
 
 pub size_word-requires : goal.size_word-requires

@@ -1,6 +1,5 @@
 -- `jibrufath::texts::jibrufath_text_pack_bytes` meets its contract.
 use Rattle.jibrufath.proofs.TextBounds.{pack-size-lt}
-use borrow.Author.Rules.{rules}
 use Rattle.jibrufath.proofs.texts.jibrufath_text_pack_bytes.Goals as goal
 
 pub size_word-requires : goal.size_word-requires

@@ -2,7 +2,6 @@
 use Prim.Native.Nat.{ℕ}
 use native.Mathlib.Omega.{arith}
 use Rattle.jibrufath.proofs.TextBounds.{write-text-lt}
-use borrow.Author.Rules.{rules}
 use Rattle.jibrufath.proofs.texts.jibrufath_write_text.Goals as goal
 
 pub answer_word-requires : goal.answer_word-requires

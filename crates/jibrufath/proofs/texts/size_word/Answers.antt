@@ -5,7 +5,6 @@ use Rattle.pack_writer.specs.Writing.{size_value}
 use Rattle.jibrufath.specs.Exports.{whole}
 use Rattle.jibrufath.proofs.Words.{packed-result, refused-place, refused-packed}
 use Rattle.jibrufath.proofs.TextBounds.{size-beside}
-use borrow.Author.Rules.{rules}
 use Rattle.jibrufath.proofs.texts.size_word.Goals as goal
 
 pub overflow_mul-result : goal.overflow_mul-result

@@ -1,7 +1,6 @@
 -- `line::block::block_after` gives the block that follows the lines that are done.
 use native.Mathlib.Omega.{arith}
 use Rattle.line.proofs.Parts.{part-block}
-use borrow.Author.Rules.{rules}
 use Rattle.line.proofs.block.block_after.Goals as goal
 
 pub returns-then-run-ge4096 : goal.returns-then-run-ge4096

@@ -1,8 +1,5 @@
 -- `line::block::codeword_blocks` decides whether all lines of a run are codewords, block by block.
-use Prim.Native.Nat.{ℕ, ◌-◌, ◌≤◌, ◌<◌}
 use native.Mathlib.Omega.{arith}
-use Rattle.line.specs.Line.{Codeword}
-use Rattle.line.specs.Run.{line_at}
 use Rattle.span.proofs.Decision.{decides-yes, decides-no, decides-false, decides-true}
 use Rattle.line.proofs.Geometry.{inside-first}
 use Rattle.line.proofs.Parts.{cover-inside, cover-first, codewords-block, codewords-more}

@@ -1,6 +1,5 @@
 -- `line::block::erased_to_end` decides whether every place from the earlier erasure on is erased.
 use native.Mathlib.Omega.{arith}
-use borrow.Author.Rules.{rules}
 use Rattle.span.proofs.Decision.{decides-no, decides-le}
 use Rattle.line.proofs.block.erased_to_end.Goals as goal
 

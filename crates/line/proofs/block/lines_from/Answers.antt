@@ -1,7 +1,6 @@
 -- `line::block::lines_from` gives neighbouring lines of a run.
 use mathlib.Core.Path.{refl}
 use Rattle.line.specs.Inner.Block.{part}
-use borrow.Author.Rules.{rules}
 use Rattle.line.proofs.block.lines_from.Goals as goal
 
 pub returns : goal.returns

@@ -2,7 +2,6 @@
 use native.Mathlib.Omega.{arith}
 use borrow.Author.Tests.{ltb-true, leb-true}
 use Rattle.line.proofs.Parts.{block-cover, part-cover}
-use borrow.Author.Rules.{rules}
 use Rattle.line.proofs.block.next_block.Goals as goal
 
 pub returns-then-width-ge64 : goal.returns-then-width-ge64

@@ -3,7 +3,6 @@ use mathlib.Core.Path.{refl, ◌∙◌}
 use native.Mathlib.Omega.{arith}
 use Rattle.line.proofs.Parts.{inside-size}
 use Rattle.line.proofs.Solving.{places-inside, places-width, combining-end, combining-cleared}
-use borrow.Author.Rules.{rules}
 use Rattle.line.proofs.block.solve_block.Goals as goal
 
 pub combine-requires : goal.combine-requires

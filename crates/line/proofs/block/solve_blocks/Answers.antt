@@ -1,10 +1,8 @@
 -- `line::block::solve_blocks` writes both erasures of each line of a run, block by block.
-use Prim.Native.Nat.{◌-◌, ◌≤◌}
 use native.Mathlib.Omega.{arith}
-use Rattle.line.specs.Inner.Block.{front}
 use Rattle.line.proofs.Geometry.{inside-first}
-use Rattle.line.proofs.Parts.{Changed, changed-none, changed-over, changed-all, cover-inside, cover-place, cover-first, inside-size}
-use Rattle.line.proofs.Solving.{Erased, ErasuresFilled, written-changed, changed-written, filled-again}
+use Rattle.line.proofs.Parts.{changed-none, changed-over, changed-all, cover-inside, cover-place, cover-first, inside-size}
+use Rattle.line.proofs.Solving.{written-changed, changed-written, filled-again}
 use Rattle.line.proofs.block.solve_blocks.Goals as goal
 
 pub loop-done-init : goal.loop-done-init

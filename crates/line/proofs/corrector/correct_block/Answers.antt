@@ -1,6 +1,5 @@
 -- `line::corrector::correct_block` corrects a block; where all lines are codewords there is nothing to do.
 use Rattle.line.proofs.Correction.{corrected-codewords}
-use borrow.Author.Rules.{rules}
 use Rattle.line.proofs.corrector.correct_block.Goals as goal
 
 pub returns-then-codeword_block : goal.returns-then-codeword_block

@@ -1,10 +1,8 @@
 -- `line::corrector::correct_blocks` corrects the lines of a run, block by block.
-use Prim.Native.Nat.{◌-◌, ◌≤◌}
 use native.Mathlib.Omega.{arith}
-use Rattle.line.specs.Inner.Block.{front}
 use Rattle.line.proofs.Geometry.{inside-first}
-use Rattle.line.proofs.Parts.{Changed, changed-none, changed-next, changed-all, block-cover, cover-inside, inside-size}
-use Rattle.line.proofs.Correction.{Below, Mended, corrected-changed, changed-corrected}
+use Rattle.line.proofs.Parts.{changed-none, changed-next, changed-all, block-cover, cover-inside, inside-size}
+use Rattle.line.proofs.Correction.{corrected-changed, changed-corrected}
 use Rattle.line.proofs.corrector.correct_blocks.Goals as goal
 
 pub loop-done-init : goal.loop-done-init

@@ -6,7 +6,6 @@ use lib.ListN.{length}
 use Rattle.solver.specs.declared.Place.TheVariants.{At}
 use Rattle.solver.specs.Solver.{PlaceOutcome}
 use Rattle.line.proofs.Correction.{corrected-nowhere, corrected-found}
-use borrow.Author.Rules.{rules}
 use Rattle.line.proofs.corrector.correct_line.Goals as goal
 use Rattle.line.proofs.corrector.correct_line.Goals.{In-At, Start}
 

@@ -1,11 +1,10 @@
 -- `line::corrector::correct_lines` corrects the lines of a block, one a turn.
 use mathlib.Core.Path.{sym, ap, ◌∙◌}
-use Prim.Native.Nat.{ℕ, ◌-◌, ◌≤◌}
+use Prim.Native.Nat.{ℕ}
 use native.Mathlib.Omega.{arith}
 use Rattle.line.specs.Line.{syndrome0, syndrome1}
-use Rattle.line.specs.Inner.Block.{front}
-use Rattle.line.proofs.Parts.{Changed, changed-none, changed-more, changed-all, line-later, inside-size}
-use Rattle.line.proofs.Correction.{Below, Mended, corrected-changed, changed-corrected}
+use Rattle.line.proofs.Parts.{changed-none, changed-more, changed-all, line-later, inside-size}
+use Rattle.line.proofs.Correction.{corrected-changed, changed-corrected}
 use Rattle.line.proofs.corrector.correct_lines.Goals as goal
 use Rattle.line.proofs.corrector.correct_lines.Goals.{Start}
 

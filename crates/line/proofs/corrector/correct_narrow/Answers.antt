@@ -1,7 +1,6 @@
 -- `line::corrector::correct_narrow` corrects the lines of a block from their syndromes, with room for 64.
 use mathlib.Core.Path.{refl}
 use Rattle.line.proofs.Tails.{empty-replicate}
-use borrow.Author.Rules.{rules}
 use Rattle.line.proofs.corrector.correct_narrow.Goals as goal
 
 pub syndromes-requires : goal.syndromes-requires

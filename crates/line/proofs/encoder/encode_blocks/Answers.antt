@@ -1,7 +1,6 @@
 -- `line::encoder::encode_blocks` takes strips, or copies the data places first and then solves the parity places of every line.
 use Rattle.line.proofs.Parts.{inside-size}
 use Rattle.line.proofs.Encoding.{parity-order, written-encoded}
-use borrow.Author.Rules.{rules}
 use Rattle.line.proofs.encoder.encode_blocks.Goals as goal
 
 pub solve_blocks-requires : goal.solve_blocks-requires

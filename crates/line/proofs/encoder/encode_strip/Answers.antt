@@ -4,7 +4,6 @@ use native.Mathlib.Omega.{arith}
 use Rattle.line.proofs.Geometry.{inside-first}
 use Rattle.line.proofs.Parts.{inside-size}
 use Rattle.line.proofs.Encoding.{parity-order, strip-inside, strip-feeds, strip-width, strip-places, strip-encoded}
-use borrow.Author.Rules.{rules}
 use Rattle.line.proofs.encoder.encode_strip.Goals as goal
 
 pub lines_from-source-requires : goal.lines_from-source-requires

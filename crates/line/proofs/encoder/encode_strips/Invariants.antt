@@ -1,11 +1,7 @@
 -- `line::encoder::encode_strips` encodes strip after strip; the last one may reach back into lines that are done.
-use mathlib.Core.Path.{◌∙◌}
 use Prim.Native.Nat.{◌-◌, ◌<◌}
-use native.Mathlib.Omega.{arith}
 use Rattle.line.specs.Run.{Encoded}
 use Rattle.line.specs.Inner.Block.{front}
-use Rattle.line.proofs.Parts.{inside-size}
-use Rattle.line.proofs.Encoding.{encoded-none, encoded-strip, encoded-all}
 use Rattle.line.proofs.encoder.encode_strips.Given as goal
 
 abbrev pub invariant-loop-done : goal.invariant-loop-done

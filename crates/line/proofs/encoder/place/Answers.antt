@@ -1,9 +1,9 @@
 -- `line::encoder::place` copies the data places of every line, one after the other.
 use mathlib.Core.Path.{refl}
-use Prim.Native.Nat.{ℕ, ◌+◌, ◌-◌, ◌*◌, ◌≤◌, ◌<◌}
+use Prim.Native.Nat.{ℕ, ◌+◌, ◌*◌, ◌≤◌, ◌<◌}
 use native.Mathlib.Omega.{arith}
 use lib.ListN.{length}
-use Rattle.line.proofs.Encoding.{Between, between_none, between_more, between-all}
+use Rattle.line.proofs.Encoding.{between_none, between_more, between-all}
 use Rattle.line.proofs.encoder.place.Goals as goal
 use Rattle.line.proofs.encoder.place.Goals.{Start}
 

@@ -1,9 +1,6 @@
 -- `line::encoder::place` copies the data places of every line, one after the other.
-use mathlib.Core.Path.{refl}
-use Prim.Native.Nat.{ℕ, ◌+◌, ◌-◌, ◌*◌, ◌≤◌, ◌<◌}
-use native.Mathlib.Omega.{arith}
-use lib.ListN.{length}
-use Rattle.line.proofs.Encoding.{Between, between_none, between_more, between-all}
+use Prim.Native.Nat.{◌-◌, ◌≤◌}
+use Rattle.line.proofs.Encoding.{Between}
 use Rattle.line.proofs.encoder.place.Given as goal
 
 abbrev pub invariant-loop-i : goal.invariant-loop-i

@@ -3,8 +3,7 @@ use mathlib.Core.Path.{◌≡◌, refl, ap, ◌∙◌}
 use Prim.Native.Nat.{ℕ, ◌+◌, ◌-◌, ◌*◌, ◌≤◌, ◌<◌}
 use native.Mathlib.Omega.{arith}
 use lib.ListN.{length, length-replicate}
-use Rattle.line.specs.Inner.Wide.{Tails}
-use Rattle.line.proofs.Encoding.{Between, between_none, between_more, between-all}
+use Rattle.line.proofs.Encoding.{between_none, between_more, between-all}
 use Rattle.line.proofs.Tails.{empty-replicate, tails-none, tails-at, tails-one, tails-whole, step-one}
 use Rattle.line.proofs.encoder.place_strip.Goals as goal
 use Rattle.line.proofs.encoder.place_strip.Goals.{Start}

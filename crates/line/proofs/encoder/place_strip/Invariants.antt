@@ -1,11 +1,9 @@
 -- `line::encoder::place_strip` copies the data places of 64 lines from the last to the first, and takes Horner's step by each.
-use mathlib.Core.Path.{◌≡◌, refl, ap, ◌∙◌}
-use Prim.Native.Nat.{ℕ, ◌+◌, ◌-◌, ◌*◌, ◌≤◌, ◌<◌}
-use native.Mathlib.Omega.{arith}
-use lib.ListN.{length, length-replicate}
+use mathlib.Core.Path.{◌≡◌}
+use Prim.Native.Nat.{◌≤◌}
+use lib.ListN.{length}
 use Rattle.line.specs.Inner.Wide.{Tails}
-use Rattle.line.proofs.Encoding.{Between, between_none, between_more, between-all}
-use Rattle.line.proofs.Tails.{empty-replicate, tails-none, tails-at, tails-one, tails-whole, step-one}
+use Rattle.line.proofs.Encoding.{Between}
 use Rattle.line.proofs.encoder.place_strip.Given as goal
 
 abbrev pub invariant-loop-left : goal.invariant-loop-left

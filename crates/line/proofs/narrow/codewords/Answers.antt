@@ -1,5 +1,4 @@
 -- `line::narrow::codewords` decides whether all lines are codewords, by a strip where it has room, else by a block.
-use borrow.Author.Rules.{rules}
 use Rattle.line.proofs.narrow.codewords.Goals as goal
 
 pub codewords_strip-requires : goal.codewords_strip-requires

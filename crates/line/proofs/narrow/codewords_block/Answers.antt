@@ -5,7 +5,6 @@ use native.Mathlib.Omega.{arith}
 use Rattle.span.proofs.Decision.{decides-map}
 use Rattle.line.proofs.Tails.{empty-replicate}
 use Rattle.line.proofs.Zeros.{zeros-codewords, codewords-zeros}
-use borrow.Author.Rules.{rules}
 use Rattle.line.proofs.narrow.codewords_block.Goals as goal
 
 pub syndromes-requires : goal.syndromes-requires

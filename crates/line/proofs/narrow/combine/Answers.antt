@@ -4,7 +4,6 @@ use Prim.Native.Nat.{ℕ, ◌+◌, ◌*◌, ◌<◌, ◌≤◌}
 use native.Mathlib.Omega.{arith}
 use lib.ListN.{length}
 use Rattle.line.proofs.Solving.{copied-combined}
-use borrow.Author.Rules.{rules}
 use Rattle.line.proofs.narrow.combine.Goals as goal
 use Rattle.line.proofs.narrow.combine.Goals.{Start}
 

@@ -1,6 +1,5 @@
 -- `line::narrow::solve` writes both erasures of each line, by a strip where it has room, else by a block.
 use native.Mathlib.Omega.{arith}
-use borrow.Author.Rules.{rules}
 use Rattle.line.proofs.narrow.solve.Goals as goal
 
 pub solve_strip-requires : goal.solve_strip-requires

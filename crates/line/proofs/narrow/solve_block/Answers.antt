@@ -3,7 +3,6 @@ use mathlib.Core.Path.{refl}
 use Prim.Native.Nat.{◌≤◌}
 use native.Mathlib.Omega.{arith}
 use Rattle.line.proofs.Tails.{empty-replicate}
-use borrow.Author.Rules.{rules}
 use Rattle.line.proofs.narrow.solve_block.Goals as goal
 
 pub syndromes-requires : goal.syndromes-requires

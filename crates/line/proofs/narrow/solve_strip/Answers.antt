@@ -1,6 +1,5 @@
 -- `line::narrow::solve_strip` writes both erasures of the first lines of a strip.
 use mathlib.Core.Path.{refl}
-use borrow.Author.Rules.{rules}
 use Rattle.line.proofs.narrow.solve_strip.Goals as goal
 
 pub syndromes-requires : goal.syndromes-requires

@@ -4,7 +4,6 @@ use native.Mathlib.Omega.{arith}
 use Rattle.span.proofs.Decision.{decides-map}
 use Rattle.line.proofs.Zeros.{zeros-codewords, codewords-zeros, zeros-both, both-zeros}
 use Rattle.line.proofs.Parts.{roomy-inside}
-use borrow.Author.Rules.{rules}
 use Rattle.line.proofs.strips.codewords.Goals as goal
 
 pub syndromes-requires : goal.syndromes-requires

@@ -3,7 +3,6 @@ use Prim.Native.Nat.{◌+◌, ◌*◌, ◌≤◌}
 use native.Mathlib.Omega.{arith}
 use lib.ListN.{length}
 use Rattle.line.proofs.Solving.{copied-combined}
-use borrow.Author.Rules.{rules}
 use Rattle.line.proofs.strips.combine.Goals as goal
 use Rattle.line.proofs.strips.combine.Goals.{Start}
 

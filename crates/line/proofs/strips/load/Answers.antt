@@ -1,9 +1,6 @@
 -- `line::strips::load` copies byte after byte into an array of zeros.
 use mathlib.Core.Path.{◌≡◌, refl}
-use Prim.Native.Nat.{◌≤◌, ◌-◌}
 use native.Mathlib.Omega.{arith}
-use lib.ListN.{length}
-use Rattle.span.specs.Span.{Copied}
 use Rattle.span.proofs.Copying.{copied_none, copied_more, copied-piece}
 use Rattle.line.proofs.strips.load.Goals as goal
 

@@ -1,10 +1,8 @@
 -- `line::strips::load` copies byte after byte into an array of zeros.
-use mathlib.Core.Path.{◌≡◌, refl}
+use mathlib.Core.Path.{◌≡◌}
 use Prim.Native.Nat.{◌≤◌, ◌-◌}
-use native.Mathlib.Omega.{arith}
 use lib.ListN.{length}
 use Rattle.span.specs.Span.{Copied}
-use Rattle.span.proofs.Copying.{copied_none, copied_more, copied-piece}
 use Rattle.line.proofs.strips.load.Given as goal
 
 abbrev pub invariant-loop-t : goal.invariant-loop-t

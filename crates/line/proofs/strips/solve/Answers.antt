@@ -2,7 +2,6 @@
 use mathlib.Core.Path.{refl}
 use native.Mathlib.Omega.{arith}
 use Rattle.line.proofs.Parts.{roomy-inside}
-use borrow.Author.Rules.{rules}
 use Rattle.line.proofs.strips.solve.Goals as goal
 
 pub syndromes-requires : goal.syndromes-requires

@@ -1,10 +1,9 @@
 -- `line::strips::syndromes` gathers both syndromes of 64 lines.
 use Prim.Native.Nat.{ℕ, ◌+◌, ◌-◌, ◌*◌, ◌≤◌}
 use native.Mathlib.Omega.{arith}
-use mathlib.Core.Path.{◌≡◌, ap, ◌∙◌}
+use mathlib.Core.Path.{ap, ◌∙◌}
 use lib.ListN.{length, length-replicate}
 use Rattle.line.specs.Inner.Block.{Roomy}
-use Rattle.line.specs.Inner.Wide.{Tails}
 use Rattle.line.proofs.Tails.{empty-replicate, tails-none, tails-at, tails-one, tails-whole, step-one}
 use Rattle.line.proofs.strips.syndromes.Goals as goal
 use Rattle.line.proofs.strips.syndromes.Goals.{In-loop-left}

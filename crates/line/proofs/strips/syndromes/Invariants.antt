@@ -1,11 +1,8 @@
 -- `line::strips::syndromes` gathers both syndromes of 64 lines.
-use Prim.Native.Nat.{ℕ, ◌+◌, ◌-◌, ◌*◌, ◌≤◌}
-use native.Mathlib.Omega.{arith}
-use mathlib.Core.Path.{◌≡◌, ap, ◌∙◌}
-use lib.ListN.{length, length-replicate}
-use Rattle.line.specs.Inner.Block.{Roomy}
+use Prim.Native.Nat.{◌≤◌}
+use mathlib.Core.Path.{◌≡◌}
+use lib.ListN.{length}
 use Rattle.line.specs.Inner.Wide.{Tails}
-use Rattle.line.proofs.Tails.{empty-replicate, tails-none, tails-at, tails-one, tails-whole, step-one}
 use Rattle.line.proofs.strips.syndromes.Given as goal
 
 abbrev pub invariant-loop-left : goal.invariant-loop-left

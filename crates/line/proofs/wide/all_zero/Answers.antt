@@ -1,10 +1,8 @@
 -- `line::wide::all_zero` decides whether both lists begin with zeros: an or is 0 exactly when both sides are.
 use mathlib.Core.Path.{◌≡◌}
-use Prim.Native.Nat.{◌-◌, ◌≤◌}
 use native.Mathlib.Omega.{arith}
-use lib.ListN.{get_or}
 use Rattle.span.proofs.Decision.{decides_eq}
-use Rattle.span.proofs.Joining.{Joined, joined-none, joined-more, or-zero}
+use Rattle.span.proofs.Joining.{joined-none, joined-more, or-zero}
 use Rattle.line.proofs.wide.all_zero.Goals as goal
 
 pub loop-t-init : goal.loop-t-init

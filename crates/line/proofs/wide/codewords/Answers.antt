@@ -3,7 +3,6 @@ use mathlib.Core.Path.{refl}
 use Rattle.span.proofs.Decision.{decides-map}
 use Rattle.line.proofs.Tails.{empty-replicate}
 use Rattle.line.proofs.Zeros.{zeros-codewords, codewords-zeros}
-use borrow.Author.Rules.{rules}
 use Rattle.line.proofs.wide.codewords.Goals as goal
 
 pub syndromes-requires : goal.syndromes-requires

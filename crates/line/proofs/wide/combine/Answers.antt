@@ -1,14 +1,14 @@
 -- `line::wide::combine` writes both erasures of each line from its syndromes.
 use mathlib.Core.Path.{◌≡◌, sym, ap, ◌∙◌}
 use mathlib.Core.Logic.{◌⊎◌, inl, inr}
-use Prim.Native.Nat.{ℕ, ◌+◌, ◌-◌, ◌*◌, ◌≤◌}
+use Prim.Native.Nat.{ℕ, ◌+◌, ◌*◌, ◌≤◌}
 use native.Mathlib.Omega.{arith}
 use lib.ListN.{length, get_or, length-set}
 use native.Mathlib.Decide.{dec_lt}
-use Rattle.field.specs.Field.{add, mul}
+use Rattle.field.specs.Field.{add}
 use Rattle.line.specs.Run.{line_at}
 use Rattle.line.proofs.Geometry.{off-width, stride-below}
-use Rattle.line.proofs.TwoStrips.{Strips, strips-none, strips-more}
+use Rattle.line.proofs.TwoStrips.{strips-none, strips-more}
 use Rattle.line.proofs.wide.combine.Goals as goal
 use Rattle.line.proofs.wide.combine.Goals.{Start}
 

@@ -1,14 +1,8 @@
 -- `line::wide::combine` writes both erasures of each line from its syndromes.
-use mathlib.Core.Path.{◌≡◌, sym, ap, ◌∙◌}
-use mathlib.Core.Logic.{◌⊎◌, inl, inr}
-use Prim.Native.Nat.{ℕ, ◌+◌, ◌-◌, ◌*◌, ◌≤◌}
-use native.Mathlib.Omega.{arith}
-use lib.ListN.{length, get_or, length-set}
-use native.Mathlib.Decide.{dec_lt}
+use Prim.Native.Nat.{◌-◌, ◌≤◌}
+use lib.ListN.{get_or}
 use Rattle.field.specs.Field.{add, mul}
-use Rattle.line.specs.Run.{line_at}
-use Rattle.line.proofs.Geometry.{off-width, stride-below}
-use Rattle.line.proofs.TwoStrips.{Strips, strips-none, strips-more}
+use Rattle.line.proofs.TwoStrips.{Strips}
 use Rattle.line.proofs.wide.combine.Given as goal
 
 abbrev pub invariant-loop-t : goal.invariant-loop-t

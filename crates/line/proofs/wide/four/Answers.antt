@@ -1,12 +1,12 @@
 -- `line::wide::four` takes four of Horner's steps for each line.
 use mathlib.Core.Path.{refl, ◌∙◌}
-use Prim.Native.Nat.{◌+◌, ◌-◌, ◌*◌, ◌≤◌}
+use Prim.Native.Nat.{◌+◌, ◌*◌, ◌≤◌}
 use native.Mathlib.Omega.{arith}
-use lib.ListN.{length, get_or}
+use lib.ListN.{length}
 use native.Mathlib.Nat.{mul-add}
-use Rattle.field.specs.Field.{add, xtime}
+use Rattle.field.specs.Field.{add}
 use Rattle.line.proofs.Tails.{horner0-at, horner1-at}
-use Rattle.strip.proofs.Updated.{Updated, updated_none, updated-more}
+use Rattle.strip.proofs.Updated.{updated_none, updated-more}
 use Rattle.line.proofs.wide.four.Goals as goal
 use Rattle.line.proofs.wide.four.Goals.{Start}
 

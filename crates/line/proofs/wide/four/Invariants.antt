@@ -1,12 +1,8 @@
 -- `line::wide::four` takes four of Horner's steps for each line.
-use mathlib.Core.Path.{refl, ◌∙◌}
-use Prim.Native.Nat.{◌+◌, ◌-◌, ◌*◌, ◌≤◌}
-use native.Mathlib.Omega.{arith}
-use lib.ListN.{length, get_or}
-use native.Mathlib.Nat.{mul-add}
+use Prim.Native.Nat.{◌+◌, ◌-◌, ◌≤◌}
+use lib.ListN.{get_or}
 use Rattle.field.specs.Field.{add, xtime}
-use Rattle.line.proofs.Tails.{horner0-at, horner1-at}
-use Rattle.strip.proofs.Updated.{Updated, updated_none, updated-more}
+use Rattle.strip.proofs.Updated.{Updated}
 use Rattle.line.proofs.wide.four.Given as goal
 
 abbrev pub invariant-loop-t : goal.invariant-loop-t

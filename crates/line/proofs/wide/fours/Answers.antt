@@ -1,9 +1,6 @@
 -- `line::wide::fours` takes Horner's steps by four places a turn.
-use mathlib.Core.Path.{◌≡◌, refl, ◌∙◌}
-use Prim.Native.Nat.{◌%◌, ◌≤◌}
+use mathlib.Core.Path.{refl, ◌∙◌}
 use native.Mathlib.Omega.{arith}
-use lib.ListN.{length}
-use Rattle.line.specs.Inner.Wide.{Tails}
 use Rattle.line.proofs.Tails.{tails-at, tails-four}
 use Rattle.line.proofs.wide.fours.Goals as goal
 

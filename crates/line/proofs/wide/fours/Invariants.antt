@@ -1,10 +1,8 @@
 -- `line::wide::fours` takes Horner's steps by four places a turn.
-use mathlib.Core.Path.{◌≡◌, refl, ◌∙◌}
+use mathlib.Core.Path.{◌≡◌}
 use Prim.Native.Nat.{◌%◌, ◌≤◌}
-use native.Mathlib.Omega.{arith}
 use lib.ListN.{length}
 use Rattle.line.specs.Inner.Wide.{Tails}
-use Rattle.line.proofs.Tails.{tails-at, tails-four}
 use Rattle.line.proofs.wide.fours.Given as goal
 
 abbrev pub invariant-loop-left : goal.invariant-loop-left

@@ -1,11 +1,11 @@
 -- `line::wide::one` takes one of Horner's steps for each line.
 use mathlib.Core.Path.{refl}
-use Prim.Native.Nat.{◌+◌, ◌-◌, ◌*◌, ◌≤◌}
+use Prim.Native.Nat.{◌+◌, ◌*◌, ◌≤◌}
 use native.Mathlib.Omega.{arith}
-use lib.ListN.{length, get_or}
-use Rattle.field.specs.Field.{add, xtime}
+use lib.ListN.{length}
+use Rattle.field.specs.Field.{add}
 use Rattle.line.specs.Run.{line_at}
-use Rattle.strip.proofs.Updated.{Updated, updated_none, updated-more}
+use Rattle.strip.proofs.Updated.{updated_none, updated-more}
 use Rattle.line.proofs.wide.one.Goals as goal
 use Rattle.line.proofs.wide.one.Goals.{Start}
 

@@ -1,11 +1,8 @@
 -- `line::wide::one` takes one of Horner's steps for each line.
-use mathlib.Core.Path.{refl}
-use Prim.Native.Nat.{◌+◌, ◌-◌, ◌*◌, ◌≤◌}
-use native.Mathlib.Omega.{arith}
-use lib.ListN.{length, get_or}
+use Prim.Native.Nat.{◌+◌, ◌-◌, ◌≤◌}
+use lib.ListN.{get_or}
 use Rattle.field.specs.Field.{add, xtime}
-use Rattle.line.specs.Run.{line_at}
-use Rattle.strip.proofs.Updated.{Updated, updated_none, updated-more}
+use Rattle.strip.proofs.Updated.{Updated}
 use Rattle.line.proofs.wide.one.Given as goal
 
 abbrev pub invariant-loop-t : goal.invariant-loop-t

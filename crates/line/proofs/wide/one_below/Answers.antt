@@ -1,7 +1,6 @@
 -- `line::wide::one_below` takes Horner's step by a place, where the lines have it.
 use native.Mathlib.Omega.{arith}
 use Rattle.line.proofs.Tails.{tails-at, tails-one}
-use borrow.Author.Rules.{rules}
 use Rattle.line.proofs.wide.one_below.Goals as goal
 
 pub returns-then-left-run : goal.returns-then-left-run

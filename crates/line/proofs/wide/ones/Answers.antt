@@ -1,7 +1,6 @@
 -- `line::wide::ones` takes Horner's steps by the places past the last multiple of four.
 use native.Mathlib.Omega.{arith}
 use Rattle.line.proofs.Tails.{tails-at}
-use borrow.Author.Rules.{rules}
 use Rattle.line.proofs.wide.ones.Goals as goal
 
 pub one_below-requires : goal.one_below-requires

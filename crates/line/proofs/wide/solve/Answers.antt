@@ -1,7 +1,6 @@
 -- `line::wide::solve` writes both erasures of each line of a block from the syndromes.
 use mathlib.Core.Path.{refl}
 use Rattle.line.proofs.Tails.{empty-replicate}
-use borrow.Author.Rules.{rules}
 use Rattle.line.proofs.wide.solve.Goals as goal
 
 pub syndromes-requires : goal.syndromes-requires

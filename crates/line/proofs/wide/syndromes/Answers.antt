@@ -1,6 +1,5 @@
 -- `line::wide::syndromes` gathers both syndromes of each line of a block.
 use Rattle.line.proofs.Tails.{tails-none, tails-whole}
-use borrow.Author.Rules.{rules}
 use Rattle.line.proofs.wide.syndromes.Goals as goal
 
 pub ones-requires : goal.ones-requires

@@ -1,7 +1,6 @@
 -- `pack::packets::all_sent` meets its contract. Assumes nothing.
 use mathlib.Core.Bool.{false≢true}
 use native.Mathlib.Omega.{arith}
-use borrow.Author.Rules.{rules}
 use borrow.Author.Tests.{leb-true}
 use Rattle.shape.proofs.Valid.{measure-fits, shape-passed}
 use Rattle.pack.proofs.Sent.{enough-sent}

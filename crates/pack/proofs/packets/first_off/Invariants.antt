@@ -1,11 +1,6 @@
 -- `pack::packets::first_off` meets its contract: the packets before i name cells of the cube. Assumes nothing.
-use mathlib.Core.Path.{◌≡◌}
 use Prim.Native.Nat.{ℕ, ◌-◌, ◌≤◌, ◌<◌}
-use native.Mathlib.Omega.{arith}
-use borrow.Author.Count.{below_more}
 use Rattle.pack.specs.Packets.{OnCube}
-use Rattle.pack.proofs.Naming.{packet-off, packet-names}
-use borrow.Author.Rules.{rules}
 use Rattle.pack.proofs.packets.first_off.Given as goal
 
 abbrev pub invariant-loop-i : goal.invariant-loop-i

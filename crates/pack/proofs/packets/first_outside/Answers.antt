@@ -1,5 +1,4 @@
 -- `pack::packets::first_outside` meets its contract. Assumes nothing.
-use borrow.Author.Rules.{rules}
 use Rattle.pack.proofs.Naming.{off-outside}
 use Rattle.pack.proofs.packets.first_outside.Goals as goal
 

@@ -1,11 +1,7 @@
 -- `pack::packets::first_unsent` meets its contract: the cells of the packets before i are sent. Assumes nothing.
 use mathlib.Core.Path.{◌≡◌, sym, ◌∙◌}
-use mathlib.Core.Bool.{false}
-use Prim.Native.Nat.{ℕ, ◌-◌, ◌≤◌, ◌<◌}
 use native.Mathlib.Omega.{arith}
 use borrow.Author.Count.{below_more}
-use Rattle.pack.specs.Packs.{unsent}
-use Rattle.pack.specs.Packets.{source}
 use Rattle.pack.proofs.Naming.{unsent-outside, none-unsent}
 use Rattle.pack.proofs.packets.first_unsent.Goals as goal
 

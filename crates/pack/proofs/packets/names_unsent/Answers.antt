@@ -1,6 +1,5 @@
 -- `pack::packets::names_unsent` meets its contract. Assumes nothing.
 use mathlib.Core.Path.{sym}
-use borrow.Author.Rules.{rules}
 use Rattle.pack.proofs.Naming.{parts-gone, parts-range, parts-unsent}
 use Rattle.pack.proofs.packets.names_unsent.Goals as goal
 

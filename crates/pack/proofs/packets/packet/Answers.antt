@@ -1,7 +1,6 @@
 -- `pack::packets::packet` meets its contract. Assumes nothing.
 use mathlib.Core.Path.{sym}
 use Rattle.pack.proofs.Naming.{parts-standing, parts-absent, parts-named}
-use borrow.Author.Rules.{rules}
 use Rattle.pack.proofs.packets.packet.Goals as goal
 
 pub returns-in_default : goal.returns-in_default

@@ -3,9 +3,7 @@ use mathlib.Core.Path.{sym, ◌∙◌}
 use Prim.Native.Nat.{◌+◌, ◌*◌, ◌≤◌}
 use native.Mathlib.Omega.{arith}
 use lib.ListN.{length}
-use borrow.Author.Tests.{not-true, not-false}
 use Rattle.pack.proofs.Naming.{limits-parts, parts-beyond-limits, parts-beyond-pack, parts-stand}
-use borrow.Author.Rules.{rules}
 use Rattle.pack.proofs.packets.packet_parts.Goals as goal
 use Rattle.pack.proofs.packets.packet_parts.Goals.{Else-not-lies_in}
 

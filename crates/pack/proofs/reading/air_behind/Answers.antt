@@ -7,7 +7,6 @@ use Rattle.answer.specs.Values.{refusal, check, checked}
 use Rattle.pack.specs.Reading.{end, packet_size, air_behind, air_value}
 use Rattle.cursor.proofs.Steps.{count-read, count_cut, count-lt, bytes_read, bytes_cut}
 use Rattle.pack.proofs.Sound.{packets-le}
-use borrow.Author.Rules.{rules}
 use Rattle.pack.proofs.reading.air_behind.Goals as goal
 
 pub returns-in_default : goal.returns-in_default

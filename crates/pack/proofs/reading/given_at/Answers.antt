@@ -1,7 +1,6 @@
 -- `pack::reading::given_at` meets its contract: with nine bytes there is room for the last four. Assumes nothing.
 use native.Mathlib.Omega.{arith}
 use borrow.Author.Tests.{eq-eqb, ne_eqb}
-use borrow.Author.Rules.{rules}
 use Rattle.cursor.proofs.Steps.{count-known, count-short}
 use Rattle.pack.specs.Reading.{given_at}
 use Rattle.pack.proofs.reading.given_at.Goals as goal

@@ -1,7 +1,6 @@
 -- `pack::reading::headed` meets its contract. Assumes nothing.
 use mathlib.Core.Path.{sym, ◌∙◌}
-use borrow.Author.Tests.{le-leb, lt-leb, not-true, not-false}
-use borrow.Author.Rules.{rules}
+use borrow.Author.Tests.{le-leb, lt-leb}
 use Rattle.answer.specs.Refusals.{fault_number}
 use Rattle.answer.specs.Values.{refusal, check, checked, and_then}
 use Rattle.answer.proofs.Values.{then-refused}

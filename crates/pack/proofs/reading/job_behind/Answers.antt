@@ -7,7 +7,6 @@ use Rattle.answer.specs.Values.{refusal, check, checked}
 use Rattle.pack.specs.Reading.{end, job_behind, job_value}
 use Rattle.cursor.proofs.Steps.{count-read, count_cut, count-lt, bytes_read, bytes_cut}
 use Rattle.pack.proofs.Sound.{used-bytes-le}
-use borrow.Author.Rules.{rules}
 use Rattle.pack.proofs.reading.job_behind.Goals as goal
 
 pub returns-in_default : goal.returns-in_default

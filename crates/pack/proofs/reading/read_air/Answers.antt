@@ -3,7 +3,6 @@ use Rattle.answer.specs.Values.{and_then}
 use Rattle.answer.proofs.Values.{then-refused}
 use Rattle.pack.specs.Reading.{air_of, air_value}
 use Rattle.pack.proofs.Sound.{header-told, header_refused, header-sound}
-use borrow.Author.Rules.{rules}
 use Rattle.pack.proofs.reading.read_air.Goals as goal
 
 pub air_behind-requires : goal.air_behind-requires

@@ -1,13 +1,11 @@
 -- `pack::reading::read_header` meets its contract: 7 is judged before the bytes of section 1 are needed. Assumes nothing.
 use mathlib.Core.Path.{sym, ◌∙◌}
 use native.Mathlib.Omega.{arith}
-use borrow.Author.Tests.{not-true, not-false}
 use Rattle.answer.specs.Refusals.{fault_number}
 use Rattle.answer.specs.Values.{refusal, check, checked}
 use Rattle.pack.specs.Reading.{header_of, header_value}
 use Rattle.cursor.proofs.Steps.{count-read, count_cut, bytes_read, bytes_cut, bytes-known}
 use Rattle.pack.proofs.Sound.{count-least}
-use borrow.Author.Rules.{rules}
 use Rattle.pack.proofs.reading.read_header.Goals as goal
 
 pub returns-in_default : goal.returns-in_default

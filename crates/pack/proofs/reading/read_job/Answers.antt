@@ -3,7 +3,6 @@ use Rattle.answer.specs.Values.{and_then}
 use Rattle.answer.proofs.Values.{then-refused}
 use Rattle.pack.specs.Reading.{job_of, job_value}
 use Rattle.pack.proofs.Sound.{header-told, header_refused, header-sound, header-limits}
-use borrow.Author.Rules.{rules}
 use Rattle.pack.proofs.reading.read_job.Goals as goal
 
 pub job_behind-requires : goal.job_behind-requires

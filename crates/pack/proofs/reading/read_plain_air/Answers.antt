@@ -1,6 +1,5 @@
 -- `pack::reading::read_plain_air` meets its contract. Assumes nothing.
 use borrow.Author.Tests.{eq-eqb, ne_eqb}
-use borrow.Author.Rules.{rules}
 use Rattle.answer.specs.Refusals.{fault_number}
 use Rattle.answer.specs.Values.{refusal, check, checked}
 use Rattle.cursor.proofs.Steps.{count-read, count_cut}

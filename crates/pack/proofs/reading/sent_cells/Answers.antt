@@ -1,8 +1,6 @@
 -- `pack::reading::sent_cells` meets its contract. Assumes nothing.
 use mathlib.Core.Path.{sym, ◌∙◌}
 use native.Mathlib.Omega.{arith}
-use borrow.Author.Tests.{not-true, not-false}
-use borrow.Author.Rules.{rules}
 use Rattle.answer.specs.Refusals.{fault_number}
 use Rattle.answer.specs.Values.{refusal, check, checked, and_then}
 use Rattle.answer.proofs.Values.{then-refused}

@@ -1,6 +1,5 @@
 -- `pack::reading::shape_at` meets its contract. Assumes nothing.
 use Rattle.pack.specs.Reading.{shape_at}
-use borrow.Author.Rules.{rules}
 use Rattle.pack.proofs.reading.shape_at.Goals as goal
 
 pub returns : goal.returns

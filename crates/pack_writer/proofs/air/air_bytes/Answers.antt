@@ -9,7 +9,6 @@ use Rattle.pack.specs.Packs.{air_size}
 use Rattle.pack.specs.Reading.{header_with, header_for}
 use Rattle.pack_writer.specs.Writing.{air_size_checked, size_value}
 use Rattle.pack_writer.proofs.Outcomes.{sizes-small}
-use borrow.Author.Rules.{rules}
 use Rattle.pack_writer.proofs.air.air_bytes.Goals as goal
 
 pub returns-then-z-lt4 : goal.returns-then-z-lt4

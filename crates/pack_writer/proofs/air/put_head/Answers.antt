@@ -1,6 +1,5 @@
 -- `pack_writer::air::put_head` meets its contract. Assumes nothing.
 use native.Mathlib.Omega.{arith}
-use borrow.Author.Rules.{rules}
 use Rattle.cursor.specs.Steps.{word_bytes}
 use Rattle.pack_writer.proofs.Laying.{laid-laid, section-length}
 use Rattle.pack_writer.proofs.air.put_head.Goals as goal

@@ -1,7 +1,6 @@
 -- `pack_writer::air::put_section` meets its contract. Assumes nothing.
 use mathlib.Core.List.{append-nil}
 use native.Mathlib.Omega.{arith}
-use borrow.Author.Rules.{rules}
 use borrow.Author.Tests.{eq-eqb, ne_eqb}
 use Rattle.cursor.specs.Steps.{word_bytes}
 use Rattle.pack.specs.Packs.{shape_bytes, section_one}

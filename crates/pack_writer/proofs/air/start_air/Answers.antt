@@ -8,9 +8,6 @@ use Rattle.pack.specs.Packs.{section_one, head, air_head, air_size}
 use Rattle.pack.specs.Reading.{header_with, header_for}
 use Rattle.pack_writer.specs.Writing.{start_value, start_refused, started}
 use Rattle.pack_writer.proofs.Starting.{air-size-passed, air-size-given, air-size-refused, start-unfit, start-short, start_fits}
-use borrow.Author.Rules.{rules}
-use Rattle.pack_writer.proofs.air.air_bytes.Reads as air-bytes-reads
-use Rattle.pack_writer.proofs.air.put_head.Reads as put-head-reads
 use Rattle.pack_writer.proofs.air.start_air.Goals as goal
 
 pub returns-then-out-n : goal.returns-then-out-n

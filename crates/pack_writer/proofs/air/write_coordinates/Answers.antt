@@ -2,7 +2,6 @@
 use native.Mathlib.Omega.{arith}
 use lib.ListN.{length-set}
 use Rattle.pack_writer.proofs.Starting.{coordinates-laid, coordinates-kept}
-use borrow.Author.Rules.{rules}
 use Rattle.pack_writer.proofs.air.write_coordinates.Goals as goal
 
 pub returns-then-len-lt3 : goal.returns-then-len-lt3

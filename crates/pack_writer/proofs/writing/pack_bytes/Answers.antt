@@ -5,7 +5,6 @@ use Rattle.shape.proofs.Valid.{measure-fits, measure-refused}
 use Rattle.pack_writer.specs.Writing.{size_checked, size_value}
 use Rattle.pack_writer.proofs.Outcomes.{sizes-small, size-told}
 use native.Mathlib.Omega.{arith}
-use borrow.Author.Rules.{rules}
 use Rattle.pack_writer.proofs.writing.pack_bytes.Goals as goal
 
 pub size_of-requires : goal.size_of-requires

@@ -2,7 +2,6 @@
 use native.Mathlib.Omega.{arith}
 use Rattle.span.proofs.Putting.{copied-put}
 use Rattle.pack_writer.proofs.Laying.{part_length}
-use borrow.Author.Rules.{rules}
 use Rattle.pack_writer.proofs.writing.put_bytes.Goals as goal
 
 pub returns : goal.returns

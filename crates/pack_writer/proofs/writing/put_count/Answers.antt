@@ -2,7 +2,6 @@
 use native.Mathlib.Omega.{arith}
 use mathlib.Core.Path.{refl}
 use Rattle.cursor.specs.Steps.{word_bytes}
-use borrow.Author.Rules.{rules}
 use Rattle.pack_writer.proofs.writing.put_count.Goals as goal
 
 pub returns : goal.returns

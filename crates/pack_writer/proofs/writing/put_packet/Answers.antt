@@ -1,6 +1,5 @@
 -- `pack_writer::writing::put_packet` meets its contract. Assumes nothing.
 use native.Mathlib.Omega.{arith}
-use borrow.Author.Rules.{rules}
 use Rattle.pack.proofs.Written.{cell-bytes-le}
 use Rattle.pack_writer.proofs.Laying.{coordinates-told, packet-laid}
 use Rattle.pack_writer.proofs.writing.put_packet.Goals as goal

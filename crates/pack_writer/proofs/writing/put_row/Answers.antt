@@ -1,6 +1,5 @@
 -- `pack_writer::writing::put_row` meets its contract. Assumes nothing.
 use native.Mathlib.Omega.{arith}
-use borrow.Author.Rules.{rules}
 use Rattle.pack_writer.proofs.Rows.{first-room, second-room, row-runs}
 use Rattle.pack_writer.proofs.writing.put_row.Goals as goal
 

@@ -1,12 +1,8 @@
 -- `pack_writer::writing::put_rows` meets its contract. The invariant: the packets of the sent cells before row q are laid. Assumes nothing.
-use mathlib.Core.Path.{refl}
 use Prim.Native.Nat.{◌-◌, ◌*◌, ◌≤◌}
-use native.Mathlib.Omega.{arith}
-use Rattle.shape.proofs.Valid.{area-le}
 use Rattle.pack.specs.Packs.{packets}
 use Rattle.pack_writer.specs.Writing.{Laid}
 use Rattle.pack_writer.specs.Inner.Writing.{packets_below}
-use Rattle.pack_writer.proofs.Rows.{below_none, below_put, rows-room, rows_more}
 use Rattle.pack_writer.proofs.writing.put_rows.Given as goal
 
 abbrev pub invariant-loop-q : goal.invariant-loop-q

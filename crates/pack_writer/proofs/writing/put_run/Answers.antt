@@ -1,9 +1,5 @@
 -- `pack_writer::writing::put_run` meets its contract. The invariant: the packets of the cells before place a are laid. Assumes nothing.
-use Prim.Native.Nat.{◌+◌, ◌-◌, ◌*◌, ◌≤◌}
 use native.Mathlib.Omega.{arith}
-use Rattle.pack.specs.Packs.{packets}
-use Rattle.pack_writer.specs.Writing.{Laid}
-use Rattle.pack_writer.specs.Inner.Writing.{packets_from}
 use Rattle.pack_writer.proofs.Laying.{run_none, run_room, run_more, run-all}
 use Rattle.pack_writer.proofs.Rows.{row-is-cell, row_inside, row_small}
 use Rattle.pack_writer.proofs.writing.put_run.Goals as goal

@@ -4,7 +4,6 @@ use native.Mathlib.Omega.{arith}
 use lib.ListN.{length-set}
 use Rattle.pack.specs.Packs.{shape_bytes}
 use Rattle.pack_writer.proofs.Laying.{shape-put}
-use borrow.Author.Rules.{rules}
 use Rattle.pack_writer.proofs.writing.put_shape.Goals as goal
 
 pub bounds-out-at-2 : goal.bounds-out-at-2

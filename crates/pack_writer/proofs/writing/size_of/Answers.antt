@@ -1,7 +1,6 @@
 -- `pack_writer::writing::size_of` meets its contract. Assumes nothing.
 use native.Mathlib.Omega.{arith}
 use Rattle.pack.proofs.Sound.{packets-le}
-use borrow.Author.Rules.{rules}
 use Rattle.pack_writer.proofs.writing.size_of.Goals as goal
 
 pub overflow_add-result : goal.overflow_add-result

@@ -3,7 +3,6 @@ use Rattle.answer.specs.Values.{answer_value}
 use Rattle.answer.proofs.Values.{answer-passed}
 use Rattle.pack_writer.specs.Writing.{air_written}
 use Rattle.pack_writer.proofs.Outcomes.{air-passed, air-unfit}
-use borrow.Author.Rules.{rules}
 use Rattle.pack_writer.proofs.writing.write_air.Goals as goal
 
 pub returns-in_default : goal.returns-in_default

@@ -1,6 +1,5 @@
 -- `pack_writer::writing::write_sections` meets its contract. Assumes nothing.
 use native.Mathlib.Omega.{arith}
-use borrow.Author.Rules.{rules}
 use Rattle.pack.proofs.Sound.{sent-told, sent-not, sent-passed}
 use Rattle.pack_writer.proofs.Laying.{sections-laid, head-room, rows-room}
 use Rattle.pack_writer.proofs.writing.write_sections.Goals as goal

@@ -1,5 +1,4 @@
 -- `pack_writer::writing::written_bytes` meets its contract. Assumes nothing.
-use borrow.Author.Rules.{rules}
 use Rattle.answer.specs.Values.{and_then, checked}
 use Rattle.answer.proofs.Values.{then-refused}
 use Rattle.pack.specs.Packs.{air_size}

@@ -1,7 +1,6 @@
 -- `plan::reading::begin` meets its contract.
 use native.Mathlib.Omega.{arith}
 use Rattle.plan.proofs.Beginning.{begun-copied}
-use borrow.Author.Rules.{rules}
 use Rattle.plan.proofs.reading.begin.Goals as goal
 
 pub returns : goal.returns

@@ -1,7 +1,6 @@
 -- `plan::reading::show` meets its contract.
 use native.Mathlib.Omega.{arith}
 use Rattle.plan_form.specs.Form.{plan_end}
-use borrow.Author.Rules.{rules}
 use Rattle.plan.proofs.reading.show.Goals as goal
 
 pub overflow_mul-n : goal.overflow_mul-n

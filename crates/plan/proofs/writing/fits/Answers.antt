@@ -2,7 +2,6 @@
 use native.Mathlib.Omega.{arith}
 use Prim.Native.Nat.{◌-◌}
 use Rattle.span.proofs.Decision.{decides-no, decides_eq}
-use borrow.Author.Rules.{rules}
 use Rattle.plan.proofs.writing.fits.Goals as goal
 
 pub returns-then-closures-fibres-ne0 : goal.returns-then-closures-fibres-ne0

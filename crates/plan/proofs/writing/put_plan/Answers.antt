@@ -4,7 +4,6 @@ use mathlib.Core.Path.{refl}
 use Prim.Native.Nat.{◌/◌}
 use lib.ListN.{length}
 use Rattle.plan.proofs.Beginning.{section-size, sections-put}
-use borrow.Author.Rules.{rules}
 use Rattle.plan.proofs.writing.put_plan.Goals as goal
 
 pub put_section-third-requires : goal.put_section-third-requires

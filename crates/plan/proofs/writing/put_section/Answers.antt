@@ -2,7 +2,6 @@
 use native.Mathlib.Omega.{arith}
 use Rattle.cursor.specs.Steps.{word_bytes}
 use Rattle.plan.proofs.Beginning.{section-laid}
-use borrow.Author.Rules.{rules}
 use Rattle.plan.proofs.writing.put_section.Goals as goal
 
 pub returns : goal.returns

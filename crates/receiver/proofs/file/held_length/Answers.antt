@@ -1,6 +1,5 @@
 -- `held_length` reads the first four bytes of the data string, low first.
 use native.Mathlib.Omega.{arith}
-use borrow.Author.Rules.{rules}
 use Rattle.cursor.specs.Steps.{word}
 use Rattle.receiver.proofs.HeldFile.{read_told}
 use Rattle.receiver.proofs.file.held_length.Goals as goal

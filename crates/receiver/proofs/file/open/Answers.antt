@@ -1,7 +1,5 @@
 -- `open` refuses a length above the buffer and a byte behind the file, and else copies the file.
 use native.Mathlib.Omega.{arith}
-use borrow.Author.Rules.{rules}
-use borrow.Author.Tests.{not-true, not-false}
 use Rattle.receiver.specs.Inner.File.{opening_value}
 use Rattle.receiver.proofs.HeldFile.{held_small, read_told, opened-long, opened-later, opened-held}
 use Rattle.receiver.proofs.file.open.Goals as goal

@@ -1,5 +1,4 @@
 -- `zero_behind` asks cube's test, which answers for a cube of the right length.
-use borrow.Author.Rules.{rules}
 use Rattle.receiver.proofs.HeldFile.{zero-told, zero-answered}
 use Rattle.receiver.proofs.file.zero_behind.Goals as goal
 

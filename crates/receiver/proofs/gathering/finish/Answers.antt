@@ -1,5 +1,4 @@
 -- `finish` answers 13 where no filling exists, the cells left where there are any, and else that the cube is whole.
-use borrow.Author.Rules.{rules}
 use Rattle.receiver.proofs.Outcomes.{gathered-contradiction, gathered-left, gathered-whole}
 use Rattle.receiver.proofs.gathering.finish.Goals as goal
 

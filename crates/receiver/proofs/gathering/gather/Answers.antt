@@ -1,6 +1,5 @@
 -- `gather` checks every index, then places the packets, then finishes.
 use native.Mathlib.Omega.{arith}
-use borrow.Author.Rules.{rules}
 use mathlib.Core.Path.{refl}
 use Prim.Native.Nat.{ℕ, ◌<◌}
 use lib.ListN.{get_or}

@@ -3,7 +3,6 @@ use mathlib.Core.Path.{refl, ap, ◌∙◌}
 use Prim.Native.Nat.{ℕ}
 use native.Mathlib.Omega.{arith}
 use lib.ListN.{replicate}
-use borrow.Author.Rules.{rules}
 use Rattle.receiver.proofs.Bytes.{set_all}
 use Rattle.receiver.proofs.Beginning.{used_le, marked-none}
 use Rattle.receiver.proofs.placing.begin.Goals as goal

@@ -8,7 +8,6 @@ use Rattle.pack.specs.Packets.{source}
 use Rattle.pack.proofs.Naming.{place-sent}
 use Rattle.receiver.specs.Gathering.{counts_of}
 use Rattle.receiver.proofs.Arrivals.{settled-placed, settled-conflicts, none-placed, none-conflicts}
-use borrow.Author.Rules.{rules}
 use Rattle.receiver.proofs.placing.place.Goals as goal
 use Rattle.receiver.proofs.placing.place.Goals.{After-place_packets-repeats}
 

@@ -2,7 +2,7 @@
 use mathlib.Core.Path.{◌≡◌}
 use mathlib.Core.Bool.{false}
 use native.Mathlib.Omega.{arith}
-use Prim.Native.Nat.{ℕ, ◌*◌, ◌<◌}
+use Prim.Native.Nat.{◌*◌, ◌<◌}
 use lib.ListN.{length}
 use Rattle.span.specs.Span.{BothInside}
 use Rattle.shape.specs.Shapes.{cells}
@@ -10,7 +10,6 @@ use Rattle.pack.specs.Packs.{unsent}
 use Rattle.pack.specs.Packets.{source}
 use Rattle.pack.proofs.Naming.{Told, packet-told, packet-absent, place_lt, place-sent}
 use Rattle.receiver.proofs.Arrivals.{cell-inside, is-repeat, arrived-first, tried-placed, tried_other}
-use borrow.Author.Rules.{rules}
 use Rattle.receiver.proofs.placing.place_first.Goals as goal
 use Rattle.receiver.proofs.placing.place_first.Goals.{In-Names}
 

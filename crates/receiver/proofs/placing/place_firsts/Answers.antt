@@ -2,8 +2,6 @@
 use mathlib.Core.Path.{◌≡◌}
 use mathlib.Core.Bool.{true}
 use native.Mathlib.Omega.{arith}
-use Prim.Native.Nat.{◌-◌}
-use borrow.Author.Tests.{not-true, not-false}
 use Rattle.pack.specs.Packets.{source}
 use Rattle.receiver.specs.Placing.{among}
 use Rattle.receiver.specs.Inner.Placing.{Run}

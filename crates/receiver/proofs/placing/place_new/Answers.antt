@@ -1,10 +1,9 @@
 -- `place_new` tells the loop of first packets whether cells are single bytes.
 use mathlib.Core.Bool.{false≢true}
-use borrow.Author.Rules.{rules}
 use Rattle.receiver.proofs.placing.place_new.Goals as goal
 
 pub place_firsts-requires-else-sh-eq1 : goal.place_firsts-requires-else-sh-eq1
 place_firsts-requires-else-sh-eq1 c = record {
-      placeable = c.requires;
-      w_value = λ e. absurd (false≢true e);
-    }
+  placeable = c.requires;
+  w_value = λ e. absurd (false≢true e);
+}

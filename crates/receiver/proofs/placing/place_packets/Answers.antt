@@ -1,12 +1,8 @@
 -- `place_packets` goes from run to run: packets that are the first of their cells, then repeats, which are counted.
 use mathlib.Core.Path.{◌≡◌}
-use mathlib.Core.Bool.{true}
 use native.Mathlib.Omega.{arith}
-use Prim.Native.Nat.{◌-◌, ◌≤◌, ◌<◌}
-use borrow.Author.Rules.{rules}
-use Rattle.pack.specs.Packets.{Source, source}
-use Rattle.receiver.specs.Placing.{repeats_of}
-use Rattle.receiver.specs.Inner.Placing.{Marked, Stops}
+use Prim.Native.Nat.{◌<◌}
+use Rattle.pack.specs.Packets.{source}
 use Rattle.receiver.proofs.Arrivals.{repeats-none, repeats-le, run-moves}
 use Rattle.receiver.proofs.placing.place_packets.Goals as goal
 use Rattle.receiver.proofs.placing.place_packets.Goals.{After-place_repeats-j}

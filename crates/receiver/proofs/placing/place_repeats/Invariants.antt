@@ -1,13 +1,7 @@
 -- `place_repeats` goes from packet to packet as long as each is a repeat.
-use mathlib.Core.Path.{◌≡◌}
-use mathlib.Core.Bool.{false}
-use native.Mathlib.Omega.{arith}
 use Prim.Native.Nat.{◌-◌}
-use borrow.Author.Tests.{not-true, not-false}
 use Rattle.pack.specs.Packets.{source}
-use Rattle.receiver.specs.Placing.{among}
 use Rattle.receiver.specs.Inner.Placing.{Run}
-use Rattle.receiver.proofs.Arrivals.{run_none, run_more, run-left}
 use Rattle.receiver.proofs.placing.place_repeats.Given as goal
 
 abbrev pub invariant-loop-i : goal.invariant-loop-i

@@ -1,7 +1,6 @@
 -- `put` copies the bytes of a packet to its cell.
 use mathlib.Core.Path.{◌≡◌}
 use native.Mathlib.Omega.{arith}
-use borrow.Author.Rules.{rules}
 use Rattle.receiver.proofs.Arrivals.{single-inside, single-copied}
 use Rattle.receiver.proofs.placing.put.Goals as goal
 use Rattle.receiver.proofs.placing.put.Goals.{Then-single}

@@ -1,15 +1,10 @@
 -- `receiver::placing::settle` makes marked cells missing and counts them.
-use mathlib.Core.Path.{◌≡◌, sym, ap, ◌∙◌}
-use mathlib.Core.Logic.{◌≢◌, ◌⊎◌, inl, inr, ⊎_elim}
-use Prim.Native.Nat.{◌+◌, ◌-◌, ◌≤◌}
-use native.Mathlib.Numerals.{add-one}
-use native.Mathlib.Omega.{arith}
-use lib.ListN.{length, get_or, set}
-use borrow.Author.Tests.{eq-eqb, ne_eqb}
+use mathlib.Core.Path.{◌≡◌}
+use Prim.Native.Nat.{◌-◌, ◌≤◌}
+use lib.ListN.{length}
 use Rattle.shape.specs.Inner.Marks.{is_marked}
-use Rattle.shape.proofs.Marks.{RemarkedTo, remarked-none, remarked-flag, remarked-turn, remarked-all}
+use Rattle.shape.proofs.Marks.{RemarkedTo}
 use Rattle.stopping.specs.Stopping.{number}
-use Rattle.stopping.proofs.Number.{number-nil, number-le, number_in, number-out}
 use Rattle.receiver.proofs.placing.settle.Given as goal
 
 abbrev pub invariant-loop-m : goal.invariant-loop-m
