@@ -4,23 +4,52 @@
 mod pieces;
 mod receiving;
 
-use libc::{STDIN_FILENO, STDOUT_FILENO};
-use printing::LIMIT;
+ghost use Rattle.std.specs.Prelude.{◌≡◌, length, OnOk};
+ghost use Rattle.std.specs.Io.KnownBytes.{Appends};
+ghost use Rattle.receive.specs.Printed.{printed};
+ghost use Rattle.receive.specs.Writes.{Writes};
+ghost use Rattle.receive.specs.Inner.Pieces.{Fits};
 
-// One byte more than an input may have is read, so that a longer one is told. What is written are the pieces, in their order.
-fn main() {
-    let mut input = [0u8; LIMIT + 1];
-    let n = io::read_full(STDIN_FILENO, &mut input);
-    let mut cube = io::large_buffer();
-    let mut flags = io::large_buffer();
-    let mut file = io::large_buffer();
-    let outcome = receiving::receive(&input[..n], &mut cube, &mut flags, &mut file);
-    let count = pieces::count(outcome);
-    let mut out = io::large_buffer();
-    let mut k = 0;
-    while k < count {
-        let end = pieces::piece(&mut out, &flags, &file, outcome, k);
-        io::write_all(STDOUT_FILENO, &out[..end]);
-        k += 1;
+use crate::receiving::Outcome;
+use printing::LIMIT;
+use std::alloc::Global;
+use std::io;
+use std::io::{Read, Write};
+
+fn main(rt: HostRuntime) -> io::Result<()> {
+    run(rt.alloc(), rt.stdin(), &mut rt.stdout())
+}
+
+// Reads an input, receives it and writes its text. One byte more than an input may have is read, so that a longer one is told.
+fn run<R: Read + Drop, W: Write>(alloc: Global, from: R, to: &mut W) -> io::Result<()>
+    ensures { OnOk result (Writes (R.remaining from) (W.contents to.old) (W.contents to.new)) }
+{
+    let mut input = Vec::new(alloc);
+    from.take(LIMIT as u64 + 1).read_to_end(&mut input)?;
+    let mut cube = vec![in alloc; 0u8; LIMIT]?;
+    let mut flag_bytes = vec![in alloc; 0u8; LIMIT]?;
+    let mut file_bytes = vec![in alloc; 0u8; LIMIT]?;
+    let mut out = vec![in alloc; 0u8; LIMIT]?;
+    let flags = flag_bytes.as_mut_slice();
+    let file = file_bytes.as_mut_slice();
+    let outcome = receiving::receive(&input, &mut cube, flags, file);
+    write_pieces(to, &mut out, flags, file, outcome)
+}
+
+// Writes the text of an outcome: its pieces, in their order.
+fn write_pieces<W: Write>(
+    to: &mut W,
+    out: &mut [u8],
+    flags: &[u8],
+    file: &[u8],
+    outcome: Outcome,
+) -> io::Result<()>
+    requires { (length out.old ≡ 65536) × (length flags.now ≡ 65536) × (length file.now ≡ 65536) × Fits outcome }
+    ensures { OnOk result (Appends (W.contents to.old) (W.contents to.new) (printed flags.now file.now outcome)) }
+{
+    for k in 0..pieces::count(outcome) {
+        let end = pieces::piece(out, flags, file, outcome, k);
+        to.write_all(&out[..end])?;
     }
+    Ok(())
 }
