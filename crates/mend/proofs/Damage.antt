@@ -13,7 +13,7 @@ use native.Mathlib.Omega.{arith}
 use lib.Dec.{leb}
 use lib.ListN.{length, get_or}
 use borrow.Author.Tests.{eqb-true, eq-eqb, leb-true, le-leb, not-false}
-use Rattle.answer.specs.Values.{Value, gives, passes}
+use Rattle.answer.specs.Values.{Value, gives}
 use Rattle.answer.proofs.Values.{passes-fails}
 use Rattle.field.specs.Field.{Primitive}
 use Rattle.shape.specs.declared.Shape.{Shape}

@@ -7,7 +7,7 @@ mod Outcomes
 pub mod Correction
 -- the pass by axis 1 from one cube into another, row by row
 pub mod Rows
--- a pass determines every byte, restores a line with one wrong byte
+-- a pass determines every byte, keeps a code cube, restores a line with one wrong byte
 pub mod Mending
 -- what damage mending undoes: seven bytes a layer, and more
 pub mod Damage

@@ -7,7 +7,6 @@ use Rattle.answer.proofs.Values.{then-refused}
 use Rattle.shape.specs.Shapes.{both, shape_checked}
 use Rattle.shape.proofs.Valid.{measure-fits, measure-refused}
 use Rattle.mend.specs.Mend.{mend_checked}
-use borrow.Author.Rules.{rules}
 use Rattle.mend.proofs.check.Goals as goal
 use Rattle.mend.proofs.check.Goals.{In-Fits}
 

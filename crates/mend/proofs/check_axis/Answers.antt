@@ -9,7 +9,6 @@ use Rattle.shape.specs.Shapes.{both, within, shape_checked}
 use Rattle.shape.proofs.Valid.{within-true, measure-fits, measure-refused}
 use Rattle.data.specs.Calls.{cube_checked}
 use Rattle.mend.specs.Mend.{axis_checked}
-use borrow.Author.Rules.{rules}
 use Rattle.mend.proofs.check_axis.Goals as goal
 use Rattle.mend.proofs.check_axis.Goals.{Else-axis-gt3, In-Fits}
 

@@ -1,12 +1,10 @@
 -- `mend::check_flags` meets its contract. Assumes nothing.
 use mathlib.Core.Path.{◌≡◌, sym, ◌∙◌}
 use mathlib.Core.Bool.{true}
-use borrow.Author.Tests.{not-true, not-false}
 use Rattle.answer.specs.Refusals.{fault_number}
 use Rattle.answer.specs.Values.{check, checked, refusal, answer_value}
 use Rattle.shape.specs.Flags.{flags_valid}
 use Rattle.mend.specs.Mend.{whole_checked}
-use borrow.Author.Rules.{rules}
 use Rattle.mend.proofs.check_flags.Goals as goal
 use Rattle.mend.proofs.check_flags.Goals.{Else-not-valid}
 

@@ -11,9 +11,8 @@ use Rattle.answer.proofs.Values.{answer-passed}
 use Rattle.mend.specs.Mend.{Passes, mend_checked, mend_done, mend_uncorrected}
 use Rattle.mend.proofs.Checks.{MendReady, mend-ready}
 use Rattle.mend.proofs.Outcomes.{mend-unfit}
-use borrow.Author.Rules.{rules}
 use Rattle.mend.proofs.mend.Goals as goal
-use Rattle.mend.proofs.mend.Goals.{After-pass-2, After-pass-2, In-Done}
+use Rattle.mend.proofs.mend.Goals.{After-pass-2, In-Done}
 
 -- the checks pass
 done-here : (c : In-Done)

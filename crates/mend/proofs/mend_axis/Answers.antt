@@ -4,7 +4,6 @@ use Rattle.answer.proofs.Values.{answer-passed}
 use Rattle.mend.specs.Mend.{axis_done}
 use Rattle.mend.proofs.Checks.{axis-mend-ready}
 use Rattle.mend.proofs.Outcomes.{axis-unfit}
-use borrow.Author.Rules.{rules}
 use Rattle.mend.proofs.mend_axis.Goals as goal
 
 pub returns-in_default : goal.returns-in_default

@@ -1,7 +1,6 @@
 -- `mend::passes::clear` sets the whole slice.
 use mathlib.Core.Path.{refl}
 use native.Mathlib.Omega.{arith}
-use borrow.Author.Rules.{rules}
 use Rattle.span.proofs.Setting.{set-whole}
 use Rattle.mend.proofs.passes.clear.Goals as goal
 

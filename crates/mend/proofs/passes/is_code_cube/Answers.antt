@@ -1,5 +1,4 @@
 -- `mend::passes::is_code_cube`: a cube of the right length is not refused.
-use borrow.Author.Rules.{rules}
 use Rattle.cube.proofs.Checking.{check-answered, check-not-refused}
 use Rattle.mend.proofs.passes.is_code_cube.Goals as goal
 

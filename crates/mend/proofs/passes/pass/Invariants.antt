@@ -1,14 +1,9 @@
 -- `mend::passes::pass` meets its contract. The invariant: m is a multiple of the stride, and the cube is the one after the runs of the lines
 -- below m. Assumes nothing.
-use mathlib.Core.Path.{◌≡◌, ◌∙◌}
+use mathlib.Core.Path.{◌≡◌}
 use Prim.Native.Nat.{◌≤◌, ◌-◌, ◌%◌}
-use native.Mathlib.Nat.{zero-mod}
-use native.Mathlib.Omega.{arith}
-use borrow.Author.Rules.{rules}
 use Rattle.shape.specs.Shapes.{lines_of, stride_of}
-use Rattle.shape.proofs.Valid.{line-told, line_refused}
-use Rattle.cube.proofs.AxisRuns.{Begins, begins, lines-ended, run_from}
-use Rattle.mend.proofs.Correction.{Through, through-none, through-more, through-all}
+use Rattle.mend.proofs.Correction.{Through}
 use Rattle.mend.proofs.passes.pass.Given as goal
 
 abbrev pub invariant-loop-l : goal.invariant-loop-l
