@@ -21,14 +21,16 @@ const OF_A_KIND: usize = 30;
 /// What the program prints for an input.
 fn printed(program: &str, input: &[u8]) -> Vec<u8> {
     let path = PathBuf::from(env!("CARGO_MANIFEST_DIR"))
-        .join("../../target/bin")
+        .join("../../crates")
+        .join(program)
+        .join("out")
         .join(program);
     let mut child = Command::new(&path)
         .stdin(Stdio::piped())
         .stdout(Stdio::piped())
         .stderr(Stdio::piped())
         .spawn()
-        .unwrap_or_else(|error| panic!("{}: {error}; run `rt check` first", path.display()));
+        .unwrap_or_else(|error| panic!("{}: {error}; run `rt run` in its crate first", path.display()));
     let mut stdin = child.stdin.take().expect("standard input is a pipe");
     let output = thread::scope(|scope| {
         scope.spawn(move || match stdin.write_all(input) {
