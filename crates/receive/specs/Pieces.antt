@@ -1,4 +1,4 @@
--- The output of Receive in pieces: only the loop that writes piece after piece is left to trust.
+-- The output of Receive in pieces, which are written one behind the other.
 use Rattle.std.specs.Prelude.{◌≡◌, List, ℕ, zero, suc, ◌+◌, ◌-◌, ◌*◌, ◌/◌, min}
 use Rattle.receive.specs.declared.receiving.Outcome.{Outcome}
 use Rattle.receive.specs.Printed.{opening_lines, joined, texts, text_of, printed}
