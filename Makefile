@@ -42,7 +42,7 @@ export PKGCONFIG
 all:
 	targets/build $(TARGETS)
 
-target/archives/SHA256SUMS: crates.txt include/jibrufath.h targets/build targets/clang targets/list $(shell find crates -type f 2>/dev/null)
+target/archives/SHA256SUMS: crates.txt include/jibrufath.h targets/build targets/clang targets/list $(shell find crates -name out -prune -o -type f -print 2>/dev/null)
 	targets/build
 
 # The archives are there, are what their checksums say, and belong to the header.
