@@ -102,12 +102,21 @@ fn changed(path: &Path) -> Option<SystemTime> {
     fs::metadata(path).and_then(|data| data.modified()).ok()
 }
 
-/// The last change of a file, or of any file in a folder and below.
+/// The last change of a file, or of any file in a folder and below, but for what rt makes of a crate: its folder `out`, with which the
+/// crate's own folder changes.
 fn newest(path: &Path) -> Option<SystemTime> {
+    if path.ends_with("out") {
+        return None;
+    }
+    let own = if path.join("src").is_dir() {
+        None
+    } else {
+        changed(path)
+    };
     let inside = fs::read_dir(path).into_iter().flatten().flatten();
     inside
         .map(|entry| newest(&entry.path()))
-        .chain([changed(path)])
+        .chain([own])
         .max()
         .flatten()
 }

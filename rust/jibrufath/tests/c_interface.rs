@@ -108,7 +108,7 @@ fn every_call_has_its_comment() {
     let in_the_header = lines_before(&header(), declares);
     assert_eq!(in_the_header.len(), exported().len());
     assert!(in_the_header.iter().all(|line| line.ends_with("*/")));
-    let exports = |line: &str| line == "#[no_mangle]";
+    let exports = |line: &str| line == "#[unsafe(no_mangle)]";
     let sources = sources();
     let in_the_sources = sources.iter().flat_map(|s| lines_before(s, exports));
     let in_the_sources: Vec<String> = in_the_sources.collect();

@@ -30,7 +30,12 @@ fn printed(program: &str, input: &[u8]) -> Vec<u8> {
         .stdout(Stdio::piped())
         .stderr(Stdio::piped())
         .spawn()
-        .unwrap_or_else(|error| panic!("{}: {error}; run `rt run` in its crate first", path.display()));
+        .unwrap_or_else(|error| {
+            panic!(
+                "{}: {error}; run `rt run` in its crate first",
+                path.display()
+            )
+        });
     let mut stdin = child.stdin.take().expect("standard input is a pipe");
     let output = thread::scope(|scope| {
         scope.spawn(move || match stdin.write_all(input) {
