@@ -1,2 +1,3 @@
 -- Why the crate `answer` meets its contracts, and the laws of values.
+pub mod Tuples
 pub mod Values

@@ -1,4 +1,6 @@
 -- The laws of values: a value gives its answer back, checks one after another, and a refusal is no result.
+use Rattle.std.specs.Prelude.{Result, Ok, Err, IsErrAnd}
+use Rattle.std.proofs.lemmas.Result.{err_from_is_err_and}
 use mathlib.Core.Path.{◌≡◌, refl, sym, ap, subst, ◌∙◌}
 use mathlib.Core.Bool.{Bool, true, false, cond}
 use mathlib.Core.Logic.{◌≢◌}
@@ -11,10 +13,8 @@ use Rattle.answer.specs.declared.PacketFault.{PacketFault}
 use Rattle.answer.specs.declared.PacketFault.TheVariants.{CellIndex}
 use Rattle.answer.specs.declared.Refusal.{Refusal}
 use Rattle.answer.specs.declared.Refusal.TheVariants.{Plain, Packet, Line, Entry}
-use Rattle.answer.specs.declared.Answer.{Answer}
-use Rattle.answer.specs.declared.Answer.TheVariants.{Done, Refused}
 use Rattle.answer.specs.Refusals.{fault_number, packet_fault_number}
-use Rattle.answer.specs.Values.{Value, gives, refused, refused_at, Checked, passes, fails, check, and_then, checked, refusal, answer_value, number_of, Retired}
+use Rattle.answer.specs.Values.{Value, gives, refused, refused_at, Checked, passes, fails, check, and_then, checked, refusal, number_of, Retired, value_of}
 
 -- ---- checks
 
@@ -159,19 +159,29 @@ retired-12 (Packet f i) e = omega (arith, packet-fault-number f)
 retired-12 (Line n) e = omega arith
 retired-12 (Entry n) e = omega arith
 
-pub answer-injective : (r s : Answer) → answer_value r ≡ answer_value s → r ≡ s
-unfolding answer_value
-answer-injective Done Done e = refl
-answer-injective Done (Refused f) e = absurd (refusal-gives f tt (sym e))
-answer-injective (Refused f) Done e = absurd (refusal-gives f tt e)
-answer-injective (Refused f) (Refused g) e = ap Refused (refusal-injective f g e)
+module _ {A : Type 0} where
+  -- an answer is known by its value
+  pub value-injective : (r s : Result A Refusal) → value_of r ≡ value_of s → r ≡ s
+  unfolding value_of
+  value-injective (Ok a) (Ok b) e = ap Ok (gives-injective a b e)
+  value-injective (Ok a) (Err f) e = absurd (refusal-gives f a (sym e))
+  value-injective (Err f) (Ok a) e = absurd (refusal-gives f a e)
+  value-injective (Err f) (Err g) e = ap Err (refusal-injective f g e)
 
--- what a caller learns of the checks from the answer of a call that does nothing but check
-pub answer-passed : (r : Answer) (c : Checked Unit) → answer_value r ≡ checked c → r ≡ Done → c ≡ passes tt
-unfolding answer_value
-answer-passed r c e p = checked-passes c tt (rw p at e)
+  -- what a caller learns of the checks from the answer of a call that does nothing but check
+  pub value-passed : (r : Result A Refusal) (c : Checked A) (a : A) → value_of r ≡ checked c → r ≡ Ok a → c ≡ passes a
+  unfolding value_of
+  value-passed r c a e p = checked-passes c a (rw p at e)
 
-pub answer-failed : {B : Type 0} (r : Answer) (c : Checked Unit) (f : Refusal) → answer_value r ≡ checked c → r ≡ Refused f
-    → (n : ℕ) × (c ≡ fails n) × (refusal {A = B} f ≡ refused n)
-unfolding answer_value
-answer-failed r c f e p = checked-fails c f (rw p at e)
+  pub value-refused : (r : Result A Refusal) (c : Checked A) (f : Refusal) → value_of r ≡ checked c → r ≡ Err f → refusal f ≡ checked c
+  unfolding value_of
+  value-refused r c f e p = rw p at e
+
+  pub value-failed : {B : Type 0} (r : Result A Refusal) (c : Checked A) (f : Refusal) → value_of r ≡ checked c → r ≡ Err f
+      → (n : ℕ) × (c ≡ fails n) × (refusal {A = B} f ≡ refused n)
+  value-failed r c f e p = checked-fails c f (value-refused r c f e p)
+
+-- the refusal that a `?` hands on
+pub handed-on : {A : Type 0} (f : Refusal) (r : Result A Refusal) (v : Value A) → IsErrAnd r (λ g. g ≡ f) → refusal f ≡ v → value_of r ≡ v
+unfolding value_of
+handed-on f r v e same = let (g, is, gf) = err_from_is_err_and r e in rw (is, gf) same

@@ -1,9 +1,7 @@
 -- What an answer is to document 01: a result, or a refusal by its number and, where it names one, its place.
-use Rattle.std.specs.Prelude.{Bool, cond, ◌≢◌, ℕ}
+use Rattle.std.specs.Prelude.{Bool, cond, ◌≢◌, ℕ, Result, Ok, Err}
 use Rattle.answer.specs.declared.Refusal.{Refusal}
 use Rattle.answer.specs.declared.Refusal.TheVariants.{Plain, Packet, Line, Entry}
-use Rattle.answer.specs.declared.Answer.{Answer}
-use Rattle.answer.specs.declared.Answer.TheVariants.{Done, Refused}
 use Rattle.answer.specs.Refusals.{fault_number, packet_fault_number, line_fault_number, entry_fault_number}
 
 -- "A refusal names its number and, for a packet, the packet's index from 0"; for a line of a text, its number from 1; for a plan, an
@@ -39,10 +37,10 @@ refusal (Packet f i) = refused_at (packet_fault_number f) i
 refusal (Line n) = refused_at line_fault_number n
 refusal (Entry at) = refused_at entry_fault_number at
 
--- the value of an answer without a result of its own
-unfoldable pub answer_value : Answer → Value Unit
-answer_value Done = gives tt
-answer_value (Refused f) = refusal f
+-- the value of what a call answers: its result, or its refusal
+unfoldable pub value_of : {A : Type 0} → Result A Refusal → Value A
+value_of (Ok a) = gives a
+value_of (Err f) = refusal f
 
 -- the number in the table, 0 with a result
 unfoldable pub number_of : {A : Type 0} → Value A → ℕ

@@ -5,7 +5,7 @@ ghost use Rattle.std.specs.Prelude.{◌≡◌};
 ghost use Rattle.answer.specs.Values.{refusal, number_of, place_of};
 
 // Why a call refuses, in the order of document 01's table.
-#[derive(Clone, Copy)]
+#[derive(Clone, Copy, PartialEq, Eq, Debug)]
 pub enum Fault {
     Dimension,
     PacketSize,
@@ -25,14 +25,14 @@ pub enum Fault {
 }
 
 // Why a packet is refused.
-#[derive(Clone, Copy)]
+#[derive(Clone, Copy, PartialEq, Eq, Debug)]
 pub enum PacketFault {
     CellIndex,
 }
 
 // A refusal: of the whole call, of a packet with its index from 0, of a line of a text with its number from 1, or of an entry of a plan with its
 // offset in the file.
-#[derive(Clone, Copy)]
+#[derive(Clone, Copy, PartialEq, Eq, Debug)]
 pub enum Refusal {
     Plain(Fault),
     Packet(PacketFault, u64),
@@ -40,14 +40,9 @@ pub enum Refusal {
     Entry(u64),
 }
 
-// What a call without a result of its own answers.
-#[derive(Clone, Copy)]
-pub enum Answer {
-    Done,
-    Refused(Refusal),
-}
-
-// The number of a refusal in document 01's table.
+// The number of a refusal in document 01's table. A match, since the table has gaps and requests add to it: numbers of the enum's own would have to be
+// written out too.
+#[tactic(auto, unfolding(crate::specs::Values::number_of, crate::specs::Values::refusal, crate::specs::Refusals::fault_number))]
 pub fn number(f: Refusal) -> u64
     ensures { result ≡ number_of {A = Unit} (refusal f) }
 {
@@ -76,6 +71,7 @@ pub fn number(f: Refusal) -> u64
 }
 
 // The place that a refusal names, the index of a packet, the number of a line or an offset; 0 where it names none.
+#[tactic(auto, unfolding(crate::specs::Values::place_of, crate::specs::Values::refusal))]
 pub fn place(f: Refusal) -> u64
     ensures { result ≡ place_of {A = Unit} (refusal f) }
 {

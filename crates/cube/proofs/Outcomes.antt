@@ -1,18 +1,16 @@
 -- The two ways out of each public call, refused with nothing changed and done; what a caller learns from an outcome; and that the inputs determine
 -- the answer and every lent byte.
+use Rattle.std.specs.Prelude.{Result, IsErrAnd}
 use mathlib.Core.Path.{◌≡◌, refl, sym, ap, ◌∙◌}
 use mathlib.Core.Bool.{Bool}
 use mathlib.Core.List.{List}
 use Prim.Native.Nat.{ℕ, ◌<◌}
 use lib.ListN.{length, get_or}
 use Rattle.answer.specs.declared.Refusal.{Refusal}
-use Rattle.answer.specs.declared.Answer.{Answer}
-use Rattle.answer.specs.declared.Answer.TheVariants.{Refused}
-use Rattle.answer.specs.Values.{Value, gives, refused, passes, checked, answer_value}
-use Rattle.answer.proofs.Values.{fails-injective, passes-fails, answer-failed}
+use Rattle.answer.specs.Values.{Value, gives, refused, passes, checked, refusal, value_of}
+use Rattle.answer.proofs.Values.{fails-injective, passes-fails, checked-fails}
 use Rattle.field.specs.Field.{Primitive}
 use Rattle.shape.specs.declared.Shape.{Shape}
-use Rattle.cube.specs.declared.CubeCheck.TheVariants.{Refused as NotChecked}
 use Rattle.data.specs.Data.{HoldsData, held_data}
 use Rattle.cube.specs.Cube.{CodeCube}
 use Rattle.cube.specs.Encoded.{encoded}
@@ -20,33 +18,31 @@ use Rattle.cube.specs.Theorems.{OnlyCodeCube, OneCodeCube}
 use Rattle.span.specs.Decision.{Decides}
 use Rattle.span.proofs.Decision.{decides-same}
 use Rattle.data.specs.Calls.{slices_checked, cube_checked}
-use Rattle.cube.specs.Calls.{EncodeOutcome, encode_refused, encode_done, CompleteOutcome, complete_refused, complete_done, check_value, CheckOutcome, check_refused, check_done}
+use Rattle.cube.specs.Calls.{EncodeOutcome, encode_refused, encode_done, CompleteOutcome, complete_refused, complete_done, CheckOutcome, check_refused, check_done}
 use Rattle.data.proofs.Checks.{checked-done}
+use Rattle.data.proofs.Outcomes.{refused-by}
 use Rattle.cube.proofs.Existence.{one-code-cube}
 
 -- ---- what the calls leave
 
-module _ (sh : Shape) (answer : Answer) where
-  pub encode-unfit : (r : ℕ) (f : Refusal) (ds xs : List ℕ) → answer_value answer ≡ checked (slices_checked sh (length ds) (length xs)) → answer ≡ Refused f
-      → EncodeOutcome r sh ds xs xs (answer_value answer)
-  unfolding answer_value
-  encode-unfit r f ds xs e p =
-      let (n, failed, value) = answer-failed {B = Unit} answer _ f e p in
-      rw (p, value) (encode_refused n failed refl)
+module _ (sh : Shape) (f : Refusal) where
+  pub encode-unfit : (r : ℕ) (ds xs : List ℕ) → refusal {A = Unit} f ≡ checked (slices_checked sh (length ds) (length xs))
+      → (answer : Result Unit Refusal) → IsErrAnd answer (λ g. g ≡ f) → EncodeOutcome r sh ds xs xs (value_of answer)
+  encode-unfit r ds xs e answer g =
+      let (n, failed, value) = checked-fails {B = Unit} (slices_checked sh (length ds) (length xs)) f e in
+      refused-by (EncodeOutcome r sh ds xs xs) f answer g (rw value (encode_refused n failed refl))
 
-  pub complete-unfit : (r : ℕ) (f : Refusal) (xs : List ℕ) → answer_value answer ≡ checked (cube_checked sh (length xs)) → answer ≡ Refused f
-      → CompleteOutcome r sh xs xs (answer_value answer)
-  unfolding answer_value
-  complete-unfit r f xs e p =
-      let (n, failed, value) = answer-failed {B = Unit} answer _ f e p in
-      rw (p, value) (complete_refused n failed refl)
+  pub complete-unfit : (r : ℕ) (xs : List ℕ) → refusal {A = Unit} f ≡ checked (cube_checked sh (length xs))
+      → (answer : Result Unit Refusal) → IsErrAnd answer (λ g. g ≡ f) → CompleteOutcome r sh xs xs (value_of answer)
+  complete-unfit r xs e answer g =
+      let (n, failed, value) = checked-fails {B = Unit} (cube_checked sh (length xs)) f e in
+      refused-by (CompleteOutcome r sh xs xs) f answer g (rw value (complete_refused n failed refl))
 
-  pub check-unfit : (r : ℕ) (f : Refusal) (xs : List ℕ) → answer_value answer ≡ checked (cube_checked sh (length xs)) → answer ≡ Refused f
-      → CheckOutcome r sh xs (check_value (NotChecked f))
-  unfolding check_value
-  check-unfit r f xs e p =
-      let (n, failed, value) = answer-failed {B = Bool} answer _ f e p in
-      rw value (check_refused n failed)
+  pub check-unfit : (r : ℕ) (xs : List ℕ) → refusal {A = Unit} f ≡ checked (cube_checked sh (length xs))
+      → (answer : Result Bool Refusal) → IsErrAnd answer (λ g. g ≡ f) → CheckOutcome r sh xs (value_of answer)
+  check-unfit r xs e answer g =
+      let (n, failed, value) = checked-fails {B = Bool} (cube_checked sh (length xs)) f e in
+      refused-by (CheckOutcome r sh xs) f answer g (rw value (check_refused n failed))
 
 -- ---- what a caller learns: a call whose checks pass is done
 

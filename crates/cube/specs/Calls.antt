@@ -1,11 +1,9 @@
 -- What the public calls answer and leave in lent memory, for every input.
 use Rattle.std.specs.Prelude.{◌≡◌, Bool, List, ℕ, length}
-use Rattle.answer.specs.Values.{Value, gives, refused, passes, fails, refusal}
+use Rattle.answer.specs.Values.{Value, gives, refused, passes, fails}
 use Rattle.shape.specs.declared.Shape.{Shape}
 use Rattle.data.specs.Calls.{slices_checked, cube_checked}
 use Rattle.data.specs.Data.{held_data}
-use Rattle.cube.specs.declared.CubeCheck.{CubeCheck}
-use Rattle.cube.specs.declared.CubeCheck.TheVariants.{Code, Refused}
 use Rattle.cube.specs.Cube.{CodeCube}
 use Rattle.cube.specs.Encoded.{encoded}
 use Rattle.span.specs.Decision.{Decides}
@@ -27,11 +25,6 @@ pub data CompleteOutcome (r : ℕ) (sh : Shape) (before after : List ℕ) : Valu
   complete_done :
       cube_checked sh (length before) ≡ passes tt → after ≡ encoded r sh (held_data sh before) →
       CompleteOutcome r sh before after (gives tt)
-
--- what `is_code_cube` answers
-unfoldable pub check_value : CubeCheck → Value Bool
-check_value (Code b) = gives b
-check_value (Refused f) = refusal f
 
 -- `is_code_cube`: whether the bytes are a code cube of the shape.
 pub data CheckOutcome (r : ℕ) (sh : Shape) (xs : List ℕ) : Value Bool → Type 0 where

@@ -5,67 +5,48 @@ mod checker;
 mod encoder;
 
 ghost use Rattle.std.specs.Prelude.{◌≡◌};
-ghost use Rattle.answer.specs.Values.{answer_value, checked};
+ghost use Rattle.answer.specs.Values.{value_of, checked};
 ghost use Rattle.field.specs.Field.{reduction};
 ghost use Rattle.data.specs.Calls.{cube_checked};
-ghost use Rattle.cube.specs.Calls.{check_value, EncodeOutcome, CompleteOutcome, CheckOutcome};
+ghost use Rattle.cube.specs.Calls.{EncodeOutcome, CompleteOutcome, CheckOutcome};
 
-use answer::{Answer, Fault, Refusal};
-use shape::{Measured, Shape};
-
-// What the check of a cube answers: whether it is a code cube.
-#[derive(Clone, Copy)]
-pub enum CubeCheck {
-    Code(bool),
-    Refused(Refusal),
-}
+use answer::{Fault, Refusal};
+use shape::Shape;
 
 // Encodes a data string: leaves in `cube` the one code cube that has it.
-pub fn encode(data: &[u8], cube: &mut [u8], sh: Shape) -> Answer
-    ensures { EncodeOutcome reduction sh «data».now cube.old cube.new (answer_value result) }
+pub fn encode(data: &[u8], cube: &mut [u8], sh: Shape) -> Result<(), Refusal>
+    ensures { EncodeOutcome reduction sh «data».now cube.old cube.new (value_of result) }
 {
-    let answer = data::slices_fit(sh, data.len(), cube.len());
-    let Answer::Done = answer else {
-        return answer;
-    };
+    data::slices_fit(sh, data.len(), cube.len())?;
     encoder::encode_cube(data, cube, field::reduction(), sh);
-    Answer::Done
+    Ok(())
 }
 
 // Encodes in place: leaves the data cells and writes every parity cell, whatever stands there.
-pub fn complete(cube: &mut [u8], sh: Shape) -> Answer
-    ensures { CompleteOutcome reduction sh cube.old cube.new (answer_value result) }
+pub fn complete(cube: &mut [u8], sh: Shape) -> Result<(), Refusal>
+    ensures { CompleteOutcome reduction sh cube.old cube.new (value_of result) }
 {
-    let answer = cube_fits(sh, cube.len());
-    let Answer::Done = answer else {
-        return answer;
-    };
+    cube_fits(sh, cube.len())?;
     encoder::complete_cube(cube, field::reduction(), sh);
-    Answer::Done
+    Ok(())
 }
 
 // Whether the bytes are a code cube of the shape.
-pub fn is_code_cube(cube: &[u8], sh: Shape) -> CubeCheck
-    ensures { CheckOutcome reduction sh cube.now (check_value result) }
+pub fn is_code_cube(cube: &[u8], sh: Shape) -> Result<bool, Refusal>
+    ensures { CheckOutcome reduction sh cube.now (value_of result) }
 {
-    match cube_fits(sh, cube.len()) {
-        Answer::Refused(f) => CubeCheck::Refused(f),
-        Answer::Done => CubeCheck::Code(checker::all_right(cube, field::reduction(), sh)),
-    }
+    cube_fits(sh, cube.len())?;
+    Ok(checker::all_right(cube, field::reduction(), sh))
 }
 
 // The checks 1 to 4 of a call that is lent a cube alone.
-fn cube_fits(sh: Shape, bytes: usize) -> Answer
-    ensures { answer_value result ≡ checked (cube_checked sh bytes) }
+fn cube_fits(sh: Shape, bytes: usize) -> Result<(), Refusal>
+    ensures { value_of result ≡ checked (cube_checked sh bytes) }
 {
-    match shape::measure(sh) {
-        Measured::Refused(f) => Answer::Refused(f),
-        Measured::Fits(z) => {
-            if bytes == z.bytes {
-                Answer::Done
-            } else {
-                Answer::Refused(Refusal::Plain(Fault::SliceLength))
-            }
-        }
+    let z = shape::measure(sh)?;
+    if bytes == z.bytes {
+        Ok(())
+    } else {
+        Err(Refusal::Plain(Fault::SliceLength))
     }
 }

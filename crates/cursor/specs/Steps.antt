@@ -1,12 +1,8 @@
 -- The steps of reading (document 01, "Where each refusal is checked"): "Sections are read one after another, each from the byte where the one
 -- before ended". Each is a row of the table; what comes next is a function of what was read and of the cursor behind it.
 use Rattle.std.specs.Prelude.{List, [], ◌∷◌, ℕ, ◌+◌, ◌*◌, ◌/◌, ◌%◌, leb, length, get_or}
-use Rattle.answer.specs.Values.{Value, gives, refused, Checked, check}
+use Rattle.answer.specs.Values.{Checked, check}
 use Rattle.cursor.specs.declared.Cursor.{Cursor}
-use Rattle.cursor.specs.declared.CountRead.{CountRead}
-use Rattle.cursor.specs.declared.CountRead.TheVariants.{Count, Cut}
-use Rattle.cursor.specs.declared.BytesRead.{BytesRead}
-use Rattle.cursor.specs.declared.BytesRead.TheVariants.{Bytes, Cut as BytesCut}
 
 -- "four bytes, low first": the number that stands at a place of a pack
 unfoldable pub word : List ℕ → ℕ → ℕ
@@ -23,13 +19,3 @@ count p c next = check (leb (c.at + 4) (length p)) 6 (next (word p c.at) (record
 -- a section of n bytes: where it begins
 unfoldable pub bytes : {A : Type 0} → List ℕ → Cursor → ℕ → (ℕ → Cursor → Checked A) → Checked A
 bytes p c n next = check (leb (c.at + n) (length p)) 6 (next c.at (record { at = c.at + n }))
-
--- ---- what the calls answer
-
-unfoldable pub count_value : CountRead → Value (ℕ × Cursor)
-count_value (Count n next) = gives (n, next)
-count_value Cut = refused 6
-
-unfoldable pub bytes_value : BytesRead → Value (ℕ × Cursor)
-bytes_value (Bytes at next) = gives (at, next)
-bytes_value BytesCut = refused 6

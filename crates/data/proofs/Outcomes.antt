@@ -1,5 +1,7 @@
 -- The two ways out of each public call, refused with nothing changed and done; what a caller learns from an outcome; and that the inputs determine
 -- the answer and every lent byte.
+use Rattle.std.specs.Prelude.{Result, Ok, Err, IsErrAnd}
+use Rattle.std.proofs.lemmas.Result.{err_from_is_err_and}
 use mathlib.Core.Path.{◌≡◌, refl, sym, ap, ◌∙◌}
 use mathlib.Core.Bool.{Bool, false, false≢true}
 use mathlib.Core.List.{List}
@@ -7,20 +9,16 @@ use mathlib.Core.Logic.{◌≢◌}
 use Prim.Native.Nat.{ℕ, ◌-◌, ◌≤◌, ◌<◌}
 use lib.ListN.{length}
 use Rattle.answer.specs.declared.Refusal.{Refusal}
-use Rattle.answer.specs.declared.Answer.{Answer}
-use Rattle.answer.specs.declared.Answer.TheVariants.{Refused}
-use Rattle.answer.specs.Values.{Value, gives, refused, passes, checked, refusal, answer_value}
-use Rattle.answer.proofs.Values.{gives-injective, fails-injective, passes-fails, refusal-gives, checked-fails, answer-failed}
+use Rattle.answer.specs.Values.{Value, gives, refused, passes, checked, refusal, value_of}
+use Rattle.answer.proofs.Values.{gives-injective, fails-injective, passes-fails, refusal-gives, checked-fails}
 use Rattle.span.specs.Span.{Copied, SetTo}
 use Rattle.span.proofs.Putting.{set-put}
 use Rattle.shape.specs.declared.Shape.{Shape}
 use Rattle.shape.specs.Shapes.{capacity}
-use Rattle.data.specs.declared.DataCheck.{DataCheck}
-use Rattle.data.specs.declared.DataCheck.TheVariants.{Zero, Refused as NotRead}
 use Rattle.data.specs.Data.{HoldsData, data_of, held_data, ParityKept}
 use Rattle.span.specs.Decision.{Decides}
 use Rattle.span.proofs.Decision.{decides-same}
-use Rattle.data.specs.Calls.{slices_checked, cube_checked, read_checked, write_checked, ExtractOutcome, extract_refused, extract_done, ReadOutcome, read_refused, read_done, WriteOutcome, write_refused, write_done, SetOutcome, set_refused, set_done, zero_value, ZeroOutcome, zero_refused, zero_done}
+use Rattle.data.specs.Calls.{slices_checked, cube_checked, read_checked, write_checked, ExtractOutcome, extract_refused, extract_done, ReadOutcome, read_refused, read_done, WriteOutcome, write_refused, write_done, SetOutcome, set_refused, set_done, ZeroOutcome, zero_refused, zero_done}
 use Rattle.data.proofs.Checks.{cube-checked-done, read-checked-done}
 use Rattle.data.proofs.HeldData.{held_data-holds}
 use Rattle.data.proofs.Reading.{copied-determined, some-nonzero}
@@ -28,43 +26,42 @@ use Rattle.data.proofs.Writing.{data-determined}
 
 -- ---- what the calls leave
 
-module _ (sh : Shape) (answer : Answer) where
-  pub extract-unfit : (f : Refusal) (xs ds : List ℕ) → answer_value answer ≡ checked (slices_checked sh (length ds) (length xs)) → answer ≡ Refused f
-      → ExtractOutcome sh xs ds ds (answer_value answer)
-  unfolding answer_value
-  extract-unfit f xs ds e p =
-      let (n, failed, value) = answer-failed {B = Unit} answer _ f e p in
-      rw (p, value) (extract_refused n failed refl)
+-- what a `?` hands on is a refusal
+pub refused-by : {A : Type 0} (P : Value A → Type 0) (f : Refusal) (answer : Result A Refusal) → IsErrAnd answer (λ g. g ≡ f)
+    → P (refusal f) → P (value_of answer)
+unfolding value_of
+refused-by P f answer e p = let (g, is, same) = err_from_is_err_and answer e in rw (is, same) p
 
-  pub read-unfit : (f : Refusal) (xs : List ℕ) (from to n : ℕ) (ds : List ℕ)
-      → answer_value answer ≡ checked (read_checked sh (length xs) (length ds) from to n) → answer ≡ Refused f
-      → ReadOutcome sh xs from to n ds ds (answer_value answer)
-  unfolding answer_value
-  read-unfit f xs from to n ds e p =
-      let (k, failed, value) = answer-failed {B = Unit} answer _ f e p in
-      rw (p, value) (read_refused k failed refl)
+module _ (sh : Shape) (f : Refusal) where
+  pub extract-unfit : (xs ds : List ℕ) → refusal {A = Unit} f ≡ checked (slices_checked sh (length ds) (length xs))
+      → (answer : Result Unit Refusal) → IsErrAnd answer (λ g. g ≡ f) → ExtractOutcome sh xs ds ds (value_of answer)
+  extract-unfit xs ds e answer r =
+      let (n, failed, value) = checked-fails {B = Unit} (slices_checked sh (length ds) (length xs)) f e in
+      refused-by (ExtractOutcome sh xs ds ds) f answer r (rw value (extract_refused n failed refl))
 
-  pub write-unfit : (f : Refusal) (src : List ℕ) (from to n : ℕ) (xs : List ℕ)
-      → answer_value answer ≡ checked (write_checked sh (length xs) (length src) from to n) → answer ≡ Refused f
-      → WriteOutcome sh src from to n xs xs (answer_value answer)
-  unfolding answer_value
-  write-unfit f src from to n xs e p =
-      let (k, failed, value) = answer-failed {B = Unit} answer _ f e p in
-      rw (p, value) (write_refused k failed refl)
+  pub read-unfit : (xs : List ℕ) (from to n : ℕ) (ds : List ℕ) → refusal {A = Unit} f ≡ checked (read_checked sh (length xs) (length ds) from to n)
+      → (answer : Result Unit Refusal) → IsErrAnd answer (λ g. g ≡ f) → ReadOutcome sh xs from to n ds ds (value_of answer)
+  read-unfit xs from to n ds e answer r =
+      let (k, failed, value) = checked-fails {B = Unit} (read_checked sh (length xs) (length ds) from to n) f e in
+      refused-by (ReadOutcome sh xs from to n ds ds) f answer r (rw value (read_refused k failed refl))
 
-pub set-unfit : (sh : Shape) (f : Refusal) (from v : ℕ) (xs : List ℕ) → refusal {A = Unit} f ≡ checked (cube_checked sh (length xs))
-    → SetOutcome sh from v xs xs (answer_value (Refused f))
-unfolding answer_value
-set-unfit sh f from v xs e =
-    let (n, failed, value) = checked-fails {B = Unit} (cube_checked sh (length xs)) f e in
-    rw value (set_refused n failed refl)
+  pub write-unfit : (src : List ℕ) (from to n : ℕ) (xs : List ℕ) → refusal {A = Unit} f ≡ checked (write_checked sh (length xs) (length src) from to n)
+      → (answer : Result Unit Refusal) → IsErrAnd answer (λ g. g ≡ f) → WriteOutcome sh src from to n xs xs (value_of answer)
+  write-unfit src from to n xs e answer r =
+      let (k, failed, value) = checked-fails {B = Unit} (write_checked sh (length xs) (length src) from to n) f e in
+      refused-by (WriteOutcome sh src from to n xs xs) f answer r (rw value (write_refused k failed refl))
 
-pub zero-unfit : (sh : Shape) (f : Refusal) (xs : List ℕ) (from : ℕ) → refusal {A = Unit} f ≡ checked (cube_checked sh (length xs))
-    → ZeroOutcome sh xs from (zero_value (NotRead f))
-unfolding zero_value
-zero-unfit sh f xs from e =
-    let (n, failed, value) = checked-fails {B = Bool} (cube_checked sh (length xs)) f e in
-    rw value (zero_refused n failed)
+  pub set-unfit : (from v : ℕ) (xs : List ℕ) → refusal {A = Unit} f ≡ checked (cube_checked sh (length xs))
+      → (answer : Result Unit Refusal) → IsErrAnd answer (λ g. g ≡ f) → SetOutcome sh from v xs xs (value_of answer)
+  set-unfit from v xs e answer r =
+      let (n, failed, value) = checked-fails {B = Unit} (cube_checked sh (length xs)) f e in
+      refused-by (SetOutcome sh from v xs xs) f answer r (rw value (set_refused n failed refl))
+
+  pub zero-unfit : (xs : List ℕ) (from : ℕ) → refusal {A = Unit} f ≡ checked (cube_checked sh (length xs))
+      → (answer : Result Bool Refusal) → IsErrAnd answer (λ g. g ≡ f) → ZeroOutcome sh xs from (value_of answer)
+  zero-unfit xs from e answer r =
+      let (n, failed, value) = checked-fails {B = Bool} (cube_checked sh (length xs)) f e in
+      refused-by (ZeroOutcome sh xs from) f answer r (rw value (zero_refused n failed))
 
 -- ---- what a caller learns: a call whose checks pass is done
 
@@ -99,14 +96,14 @@ zero-given : {sh : Shape} {xs : List ℕ} {from : ℕ} {v : Value Bool} → cube
 zero-given e (zero_refused n f) = absurd (passes-fails tt n (sym e ∙ f))
 zero-given e (zero_done b checks d) = (b, refl, d)
 
-zero_is : (r : DataCheck) (b : Bool) → zero_value r ≡ gives b → r ≡ Zero b
-unfolding zero_value
-zero_is (Zero a) b e = ap Zero (gives-injective a b e)
-zero_is (NotRead f) b e = absurd (refusal-gives f b e)
+zero_is : (r : Result Bool Refusal) (b : Bool) → value_of r ≡ gives b → r ≡ Ok b
+unfolding value_of
+zero_is (Ok a) b e = ap Ok (gives-injective a b e)
+zero_is (Err f) b e = absurd (refusal-gives f b e)
 
-pub zero-works : {sh : Shape} {xs : List ℕ} {from : ℕ} (answer : DataCheck) → cube_checked sh (length xs) ≡ passes tt
-    → ZeroOutcome sh xs from (zero_value answer)
-    → (b : Bool) × (answer ≡ Zero b) × Decides ((q : ℕ) → from ≤ q → q < capacity sh → data_of sh xs q ≡ 0) b
+pub zero-works : {sh : Shape} {xs : List ℕ} {from : ℕ} (answer : Result Bool Refusal) → cube_checked sh (length xs) ≡ passes tt
+    → ZeroOutcome sh xs from (value_of answer)
+    → (b : Bool) × (answer ≡ Ok b) × Decides ((q : ℕ) → from ≤ q → q < capacity sh → data_of sh xs q ≡ 0) b
 zero-works answer e o = let (b, value, d) = zero-given e o in (b, zero_is answer b value, d)
 
 -- an answer that is not true names a byte of the data string that is not 00h

@@ -3,7 +3,6 @@ use mathlib.Core.Path.{◌≡◌, refl, sym, ap, subst, ◌∙◌}
 use mathlib.Core.List.{List}
 use Prim.Native.Nat.{ℕ, ◌+◌, ◌-◌, ◌*◌, ◌/◌, ◌%◌, ◌≤◌, ◌<◌}
 use native.Mathlib.Nat.{mul_comm, mul-le-mul, mul-le-mul_right, mul-pos, add-mul, mod-lt, mod-add-div, div-add-mod', div-lt_iff_lt-mul}
-use native.Mathlib.Decide.{dec_lt}
 use native.Mathlib.Omega.{arith}
 use lib.ListN.{get_or}
 use Rattle.span.proofs.Stretches.{stretch-end, factor-below}
@@ -185,6 +184,14 @@ module _ (sh : Shape) (q : ℕ) (s : Stretch) (v : Valid sh) (h : Standing sh q 
         some = width-pos sh v;
       }
 
--- the smaller of two numbers that are not 0
-pub smaller-pos : (k a b : ℕ) → (k < b → k ≡ a) → 0 < a → 0 < b → 0 < k
-smaller-pos k a b h la lb = elim (dec_lt k b) [ yes l ↦ omega (arith, h l) | no l ↦ omega arith ]
+-- ---- the stretch that a walk of the data string comes to
+
+pub record Ahead (sh : Shape) (q : ℕ) (s : Stretch) : Type 0 where
+  pub standing : Standing sh q s
+  pub below : q < capacity sh
+  pub inside : s.at + s.len ≤ sh.w * cells sh
+
+pub lies-ahead : (sh walked : Shape) (q : ℕ) (s : Stretch) → Valid sh → walked ≡ sh → Standing walked q s → q < capacity sh → Ahead sh q s
+lies-ahead sh walked q s v e h l =
+    let standing = subst (λ (k : Shape). Standing k q s) e h in
+    record { standing = standing; below = l; inside = standing-inside sh q s v standing l }

@@ -42,10 +42,10 @@ module _ (sh : Shape) (xs : List ℕ) (v : Valid sh) where
       copied-append copied copy
       (λ i l. sym (held_data-at sh xs (from + n + i) (omega arith) ∙ standing-byte sh (from + n) s v h xs i (omega arith)))
 
-  -- the bytes of a stretch are 00h
-  pub zero_more : (s : Stretch) (from q : ℕ) → Standing sh q s → ZeroBytes xs s.at s.len → ((p : ℕ) → from ≤ p → p < q → data_of sh xs p ≡ 0)
-      → (p : ℕ) → from ≤ p → p < q + s.len → data_of sh xs p ≡ 0
-  zero_more s from q h zeros done p low less =
+  -- k bytes of a stretch are 00h
+  pub zero_more : (s : Stretch) (from q k : ℕ) → Standing sh q s → k ≤ s.len → ZeroBytes xs s.at k → ((p : ℕ) → from ≤ p → p < q → data_of sh xs p ≡ 0)
+      → (p : ℕ) → from ≤ p → p < q + k → data_of sh xs p ≡ 0
+  zero_more s from q k h le zeros done p low less =
       elim (dec_lt p q) [
         | yes before ↦ done p low before
         | no here ↦
@@ -53,12 +53,14 @@ module _ (sh : Shape) (xs : List ℕ) (v : Valid sh) where
             ap (data_of sh xs) (sym place) ∙ standing-byte sh q s v h xs (p - q) (omega arith) ∙ zeros.bytes (p - q) (omega arith)
       ]
 
-  pub zero-stretch : (s : Stretch) (q : ℕ) → length xs ≡ sh.w * cells sh → Standing sh q s → q < capacity sh
-      → ((p : ℕ) → q ≤ p → p < capacity sh → data_of sh xs p ≡ 0) → ZeroBytes xs s.at s.len
-  zero-stretch s q size h less zeros =
+  pub zero-stretch : (s : Stretch) (q k : ℕ) → length xs ≡ sh.w * cells sh → Standing sh q s → k ≤ s.len → q < capacity sh
+      → ((p : ℕ) → q ≤ p → p < capacity sh → data_of sh xs p ≡ 0) → ZeroBytes xs s.at k
+  zero-stretch s q k size h le less zeros =
       record {
         inside = omega (arith, standing-inside sh q s v h less);
-        bytes = λ i l. sym (standing-byte sh q s v h xs i l) ∙ zeros (q + i) (omega arith) (omega (arith, standing-end sh q s v h less));
+        bytes = λ i l.
+            sym (standing-byte sh q s v h xs i (omega arith))
+            ∙ zeros (q + i) (omega arith) (omega (arith, standing-end sh q s v h less));
       }
 
   -- the whole data string

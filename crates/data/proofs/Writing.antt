@@ -168,14 +168,15 @@ module _ (sh : Shape) (valid : Valid sh) (s : Stretch) (before mid after : List 
       })
       (λ i l. refl)
 
-  -- a stretch set
-  pub set_more : (from q v : ℕ) → Standing sh q s → from ≤ q → q + s.len ≤ capacity sh → SetTo (held_data sh before) from (q - from) v (held_data sh mid)
-      → SetTo mid s.at s.len v after → SetTo (held_data sh before) from (q + s.len - from) v (held_data sh after)
-  set_more from q v h low room done set =
-      set-append (q + s.len - from) (omega arith) (omega arith) done
+  -- k bytes of a stretch set
+  pub set_more : (from q k v : ℕ) → Standing sh q s → k ≤ s.len → from ≤ q → q + k ≤ capacity sh
+      → SetTo (held_data sh before) from (q - from) v (held_data sh mid) → SetTo mid s.at k v after
+      → SetTo (held_data sh before) from (q + k - from) v (held_data sh after)
+  set_more from q k v h le low room done set =
+      set-append (q + k - from) (omega arith) (omega arith) done
       (record {
-        bytes = λ i l. stretch-byte q i h l (omega arith) ∙ set.bytes i l;
-        kept = stretch-held sh valid q s.len s mid after h (omega arith) set.kept;
+        bytes = λ i l. stretch-byte q i h (omega arith) (omega arith) ∙ set.bytes i l;
+        kept = stretch-held sh valid q k s mid after h le set.kept;
       })
 
 -- ---- what a caller learns

@@ -1,12 +1,10 @@
 -- What the public calls answer and leave in lent memory, for every input.
 use Rattle.std.specs.Prelude.{◌≡◌, Bool, List, ℕ, ◌+◌, ◌-◌, ◌≤◌, ◌<◌, eqb, leb, length}
-use Rattle.answer.specs.Values.{Value, gives, refused, Checked, passes, fails, check, and_then, refusal}
+use Rattle.answer.specs.Values.{Value, gives, refused, Checked, passes, fails, check, and_then}
 use Rattle.shape.specs.declared.Shape.{Shape}
 use Rattle.span.specs.Span.{Copied, SetTo}
 use Rattle.span.specs.Decision.{Decides}
 use Rattle.shape.specs.Shapes.{both, capacity, shape_checked}
-use Rattle.data.specs.declared.DataCheck.{DataCheck}
-use Rattle.data.specs.declared.DataCheck.TheVariants.{Zero, Refused}
 use Rattle.data.specs.Data.{data_of, held_data, ParityKept}
 
 -- The checks 1, 2, 3, 4 of a call that is lent a data string and a cube.
@@ -49,11 +47,6 @@ pub data ReadOutcome (sh : Shape) (xs : List ℕ) (from to n : ℕ) (before afte
   read_done :
       read_checked sh (length xs) (length before) from to n ≡ passes tt → Copied (held_data sh xs) from before to n after →
       ReadOutcome sh xs from to n before after (gives tt)
-
--- what `is_data_zero` answers
-unfoldable pub zero_value : DataCheck → Value Bool
-zero_value (Zero b) = gives b
-zero_value (Refused f) = refusal f
 
 -- `is_data_zero`: whether every byte of the data string from `from` on is 00h.
 pub data ZeroOutcome (sh : Shape) (xs : List ℕ) (from : ℕ) : Value Bool → Type 0 where

@@ -1,8 +1,13 @@
 -- Cubes and their data strings (document 01, "Cube"). A cube is its list of bytes.
 use Rattle.std.specs.Prelude.{◌≡◌, List, ℕ, ◌+◌, ◌-◌, ◌*◌, ◌/◌, ◌%◌, ◌<◌, length, get_or}
 use Rattle.shape.specs.declared.Shape.{Shape}
-use Rattle.shape.specs.Shapes.{capacity, cell}
+use Rattle.shape.specs.Shapes.{Valid, cells, capacity, cell}
 use Rattle.data.specs.Tables.{tabulate}
+
+-- the bytes of a cube of a valid shape: W bytes a cell
+pub record IsCube (sh : Shape) (xs : List ℕ) : Type 0 where
+  pub valid : Valid sh
+  pub size : length xs ≡ sh.w * cells sh
 
 -- "Layer w is the w-th byte of every cell"
 unfoldable pub layer : Shape → List ℕ → ℕ → ℕ → ℕ

@@ -1,2 +1,3 @@
 -- What the crate's own functions promise each other.
 pub mod Place
+pub mod Walk

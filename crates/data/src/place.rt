@@ -13,6 +13,27 @@ pub(crate) struct Stretch {
     pub(crate) b: usize,
 }
 
+// Bytes of the data string that stand together, from byte q on: where in the cube, and how many.
+#[derive(Clone, Copy)]
+pub(crate) struct Piece {
+    pub(crate) q: usize,
+    pub(crate) at: usize,
+    pub(crate) len: usize,
+}
+
+// The pieces of the data string from byte q up to byte `end`, row by row. It stands here, since what `pieces` imports names it, and a ghost field may
+// not import what leads back to its struct.
+#[derive(Clone, Copy)]
+pub(crate) struct Pieces {
+    pub(crate) sh: Shape,
+    pub(crate) q: usize,
+    pub(crate) end: usize,
+    pub(crate) next: Stretch,
+    ghost valid: { Valid sh },
+    ghost inside: { end ≤ capacity sh },
+    ghost begun: { q ≤ end },
+}
+
 // The stretch from byte q of the data string on.
 pub(crate) fn stretch_at(sh: Shape, q: usize) -> Stretch
     requires { Valid sh × (q ≤ capacity sh) }
@@ -27,7 +48,7 @@ pub(crate) fn stretch_at(sh: Shape, q: usize) -> Stretch
     Stretch {
         at: sh.l1 * (b + sh.l2 * c) * sh.w + y,
         len: width - y,
-        b: b,
+        b,
     }
 }
 
@@ -41,24 +62,11 @@ pub(crate) fn next_row(sh: Shape, s: Stretch) -> Stretch
     let at = s.at + s.len + 2 * w;
     let b = s.b + 1;
     if b < sh.l2 - 2 {
-        return Stretch {
-            at: at,
-            len: width,
-            b: b,
-        };
+        return Stretch { at, len: width, b };
     }
     Stretch {
         at: at + 2 * (sh.l1 * w),
         len: width,
         b: 0,
     }
-}
-
-pub(crate) fn smaller(a: usize, b: usize) -> usize
-    ensures { (result ≤ a) × (result ≤ b) × (result < b → result ≡ a) }
-{
-    if a < b {
-        return a;
-    }
-    b
 }

@@ -7,14 +7,7 @@ use Prim.Native.Nat.{ℕ, ◌+◌, ◌-◌, ◌*◌}
 use native.Mathlib.Decide.{dec_le, dec_lt}
 use native.Mathlib.Omega.{arith}
 use lib.ListN.{length}
-use Rattle.answer.specs.declared.Refusal.{Refusal}
-use Rattle.answer.specs.Values.{Checked, passes, checked, refusal}
-use Rattle.answer.proofs.Values.{checked-passes}
 use Rattle.shape.specs.Flags.{missing}
-use Rattle.erasures.specs.declared.ScanCounts.{ScanCounts}
-use Rattle.erasures.specs.declared.ScanAnswer.{ScanAnswer}
-use Rattle.erasures.specs.declared.ScanAnswer.TheVariants.{Scanned, Refused}
-use Rattle.erasures.specs.Scan.{scan_value}
 use Rattle.erasures.specs.Erasures.{Places, LineOutcome}
 use Rattle.erasures.proofs.Inside.{places-last}
 use Rattle.erasures.proofs.Scanning.{scanned-determined}
@@ -50,14 +43,3 @@ scan-line-determined fs start stride len count read first last count' read' firs
     let y = b.refused n in
     (x.0 ∙ sym y.0, x.1 ∙ sym y.1, x.2 ∙ sym y.2, x.3 ∙ sym y.3))
     (places-or-not fs start stride len)
-
--- ---- what a caller of `scan` learns from its answer
-
-module _ (c : Checked ScanCounts) (r : ScanAnswer) (e : scan_value r ≡ checked c) where
-  pub scan-told : (s : ScanCounts) → r ≡ Scanned s → c ≡ passes s
-  unfolding scan_value
-  scan-told s p = checked-passes c s (rw p at e)
-
-  pub scan-refused : (f : Refusal) → r ≡ Refused f → refusal {A = ScanCounts} f ≡ checked c
-  unfolding scan_value
-  scan-refused f p = rw p at e

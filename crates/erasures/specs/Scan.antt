@@ -1,15 +1,13 @@
 -- Request P2: "the count of holes on a line ends" at the third. "It answers how many holes, at most 3, and how many places it read: up to and
 -- with its third hole, or the whole line." M is a set of cells, a line is given by its first cell, stride and length.
 use Rattle.std.specs.Prelude.{◌≡◌, Bool, true, List, ℕ, ◌+◌, ◌*◌, ◌≤◌, ◌<◌, min, eqb, ltb, length}
-use Rattle.answer.specs.Values.{Value, gives, Checked, passes, check, and_then, refusal}
+use Rattle.answer.specs.Values.{Checked, passes, check, and_then}
 use Rattle.shape.specs.declared.Shape.{Shape}
 use Rattle.shape.specs.declared.Line.{Line}
 use Rattle.shape.specs.Shapes.{cells, line_of}
 use Rattle.shape.specs.Flags.{missing}
 use Rattle.stopping.specs.Stopping.{number, on_line}
 use Rattle.erasures.specs.declared.ScanCounts.{ScanCounts}
-use Rattle.erasures.specs.declared.ScanAnswer.{ScanAnswer}
-use Rattle.erasures.specs.declared.ScanAnswer.TheVariants.{Scanned, Refused}
 
 -- The request's sentence: the third hole stands in place k, and k + 1 places are read; or there are fewer, and the whole line is.
 pub data UpToThird (M : ℕ → Bool) (first stride len : ℕ) : ℕ → ℕ → Type 0 where
@@ -35,7 +33,3 @@ scanned fs l =
 -- What `scan` answers for line m of an axis: 1 (the axis number or a length), 2, 3, 1 (no such line), 4. It is lent nothing to write.
 unfoldable pub scan_of : List ℕ → Shape → ℕ → ℕ → Checked ScanCounts
 scan_of fs sh axis m = and_then (line_of sh axis m) (λ l. check (eqb (length fs) (cells sh)) 4 (passes (scanned fs l)))
-
-unfoldable pub scan_value : ScanAnswer → Value ScanCounts
-scan_value (Scanned s) = gives s
-scan_value (Refused f) = refusal f

@@ -2,31 +2,25 @@
 #![tactic(auto)]
 
 ghost use Rattle.std.specs.Prelude.{◌≡◌};
-ghost use Rattle.answer.specs.Values.{checked};
+ghost use Rattle.answer.specs.Values.{value_of, checked};
 ghost use Rattle.shape.specs.Flags.{missing};
 ghost use Rattle.span.specs.Decision.{Decides};
-ghost use Rattle.erasures.specs.Scan.{places_read, scan_of, scan_value};
+ghost use Rattle.erasures.specs.Scan.{places_read, scan_of};
 ghost use Rattle.erasures.specs.Erasures.{Places, Scanned, LineOutcome};
 
 use answer::{Fault, Refusal};
-use shape::{Line, LineAnswer, Shape};
+use shape::{Line, Shape};
 
 // What a scan of a line tells: how many erasures were found, at most three, and how many places were read to find them (request P2: holes and
 // places read).
-#[derive(Clone, Copy)]
+#[derive(Clone, Copy, PartialEq, Eq, Debug)]
 pub struct ScanCounts {
     pub erasures: usize,
     pub read: usize,
 }
 
-#[derive(Clone, Copy)]
-pub enum ScanAnswer {
-    Scanned(ScanCounts),
-    Refused(Refusal),
-}
-
 // The missing cells of a line: how many, at most three, how many places were read, and the first and the last of them that misses a cell.
-#[derive(Clone, Copy)]
+#[derive(Clone, Copy, PartialEq, Eq, Debug)]
 pub struct MissingPlaces {
     pub count: usize,
     pub read: usize,
@@ -34,24 +28,28 @@ pub struct MissingPlaces {
     pub last: usize,
 }
 
+// What is found on a line that is not looked at.
+const NONE: MissingPlaces = MissingPlaces {
+    count: 0,
+    read: 0,
+    first: 0,
+    last: 0,
+};
+
 // Scans a line of an axis up to its third erasure, lines numbered by the cell number of their first cell. Flags behind the places read may be
 // anything, and no flag is refused: a scan that asked them all would not stop.
-pub fn scan(flags: &[u8], sh: Shape, axis: usize, line: usize) -> ScanAnswer
-    ensures { scan_value result ≡ checked (scan_of flags.now sh axis line) }
+pub fn scan(flags: &[u8], sh: Shape, axis: usize, line: usize) -> Result<ScanCounts, Refusal>
+    ensures { value_of result ≡ checked (scan_of flags.now sh axis line) }
 {
-    match shape::axis_line(sh, axis, line) {
-        LineAnswer::Refused(f) => ScanAnswer::Refused(f),
-        LineAnswer::Found(found) => {
-            if flags.len() != sh.l1 * sh.l2 * sh.l3 {
-                return ScanAnswer::Refused(Refusal::Plain(Fault::SliceLength));
-            }
-            let e = scan_line(flags, found);
-            ScanAnswer::Scanned(ScanCounts {
-                erasures: e.count,
-                read: e.read,
-            })
-        }
+    let found = shape::axis_line(sh, axis, line)?;
+    if flags.len() != sh.l1 * sh.l2 * sh.l3 {
+        return Err(Refusal::Plain(Fault::SliceLength));
     }
+    let e = scan_line(flags, found);
+    Ok(ScanCounts {
+        erasures: e.count,
+        read: e.read,
+    })
 }
 
 // The missing cells of a line whose places all have a flag; no other line is looked at, and nothing found on it.
@@ -59,12 +57,7 @@ pub fn scan_line(flags: &[u8], line: Line) -> MissingPlaces
     ensures { LineOutcome flags.now line.first line.stride line.len result.count result.read result.first result.last }
 {
     if !has_flags(flags, line) {
-        return MissingPlaces {
-            count: 0,
-            read: 0,
-            first: 0,
-            last: 0,
-        };
+        return NONE;
     }
     look(flags, line)
 }
@@ -73,9 +66,7 @@ pub fn scan_line(flags: &[u8], line: Line) -> MissingPlaces
 fn has_flags(flags: &[u8], line: Line) -> bool
     ensures { Decides (Places flags.now line.first line.stride line.len) result }
 {
-    let first = line.first;
-    let stride = line.stride;
-    let len = line.len;
+    let Line { first, stride, len } = line;
     if len == 0 || 255 < len || 65025 < stride || flags.len() <= first {
         return false;
     }
@@ -88,26 +79,20 @@ fn look(flags: &[u8], line: Line) -> MissingPlaces
     ensures scanned { Scanned (missing flags.now) line.first line.stride line.len result.count result.first result.last }
     ensures read_value { result.read ≡ places_read (missing flags.now) line.first line.stride line.len }
 {
-    let first = line.first;
-    let stride = line.stride;
-    let len = line.len;
-    let mut e = MissingPlaces {
-        count: 0,
-        read: 0,
-        first: 0,
-        last: 0,
-    };
-    let mut i = 0;
-    while i < len && e.count < 3 {
+    let Line { first, stride, len } = line;
+    let mut e = MissingPlaces { read: len, ..NONE };
+    for i in 0..len {
         if flags[first + stride * i] == 1 {
             if e.count == 0 {
                 e.first = i;
             }
             e.last = i;
             e.count += 1;
+            if e.count == 3 {
+                e.read = i + 1;
+                break;
+            }
         }
-        i += 1;
     }
-    e.read = i;
     e
 }

@@ -1,4 +1,5 @@
 -- The checks 1 to 5, by what each of them finds; and what a call that passes them has.
+use Rattle.std.specs.Prelude.{Ok, Err}
 use mathlib.Core.Path.{◌≡◌, refl}
 use mathlib.Core.Bool.{Bool, true, false, cond}
 use mathlib.Core.List.{List}
@@ -8,19 +9,15 @@ use borrow.Author.Tests.{eqb-true, eq-eqb, ne_eqb}
 use lib.Dec.{eqb}
 use lib.ListN.{length}
 use Rattle.answer.specs.declared.Fault.TheVariants.{SliceLength, FlagValue}
-use Rattle.answer.specs.declared.Refusal.{Refusal}
 use Rattle.answer.specs.declared.Refusal.TheVariants.{Plain}
-use Rattle.answer.specs.declared.Answer.TheVariants.{Done, Refused}
 use Rattle.answer.specs.Refusals.{fault_number}
-use Rattle.answer.specs.Values.{passes, fails, check, and_then, checked, refusal, answer_value}
-use Rattle.answer.proofs.Values.{check-passed, then-passed, then-refused}
+use Rattle.answer.specs.Values.{passes, fails, check, and_then, checked, refusal, value_of}
+use Rattle.answer.proofs.Values.{check-passed, then-passed}
 use Rattle.shape.specs.declared.Shape.{Shape}
 use Rattle.shape.specs.declared.Sizes.{Sizes}
-use Rattle.shape.specs.declared.Measured.{Measured}
-use Rattle.shape.specs.declared.Measured.TheVariants.{Refused as Misfit}
-use Rattle.shape.specs.Shapes.{both, shape_checked, measured_value}
+use Rattle.shape.specs.Shapes.{both, shape_checked}
 use Rattle.shape.specs.Flags.{flags_valid}
-use Rattle.shape.proofs.Valid.{both-parts, both_true, measure-refused}
+use Rattle.shape.proofs.Valid.{both-parts, both_true}
 use Rattle.fill.specs.Fill.{flags_checked}
 use Rattle.peel.specs.Peel.{Sized}
 use Rattle.peel.proofs.Sizing.{passed-sized}
@@ -28,30 +25,25 @@ use Rattle.peel.proofs.Sizing.{passed-sized}
 -- ---- what the checks answer
 
 module _ (sh : Shape) (n : ℕ) (fs : List ℕ) where
-  pub checked-shape : (m : Measured) (f : Refusal) → measured_value m ≡ checked (shape_checked sh) → m ≡ Misfit f
-      → answer_value (Refused f) ≡ checked (flags_checked sh n fs)
-  unfolding flags_checked answer_value
-  checked-shape m f e p = then-refused (shape_checked sh) _ f (measure-refused sh m f e p)
-
   module _ (z : Sizes) (fits : shape_checked sh ≡ passes z) where
-    pub checked-length : (n ≢ z.bytes) ⊎ (length fs ≢ z.cells) → answer_value (Refused (Plain SliceLength)) ≡ checked (flags_checked sh n fs)
-    unfolding flags_checked and_then check checked answer_value refusal fault_number both
+    pub checked-length : (n ≢ z.bytes) ⊎ (length fs ≢ z.cells) → value_of {A = Unit} (Err (Plain SliceLength)) ≡ checked (flags_checked sh n fs)
+    unfolding flags_checked and_then check checked value_of refusal fault_number both
     checked-length s =
         rw fits
         (⊎_elim (λ ne. rw (ne_eqb n z.bytes ne))
         (λ ne. rw (ne_eqb (length fs) z.cells ne) (by (eqb n z.bytes))) s)
       where
-        by : (b : Bool) → answer_value (Refused (Plain SliceLength)) ≡ checked (cond (cond b false false) (cond (flags_valid fs) (passes tt) (fails 5)) (fails 4))
+        by : (b : Bool) → value_of {A = Unit} (Err (Plain SliceLength)) ≡ checked (cond (cond b false false) (cond (flags_valid fs) (passes tt) (fails 5)) (fails 4))
         by true = refl
         by false = refl
 
     pub checked-flags : (b : Bool) → n ≡ z.bytes → length fs ≡ z.cells → flags_valid fs ≡ b
-        → answer_value (cond b Done (Refused (Plain FlagValue))) ≡ checked (flags_checked sh n fs)
-    unfolding flags_checked and_then check checked answer_value refusal fault_number
+        → value_of {A = Unit} (cond b (Ok tt) (Err (Plain FlagValue))) ≡ checked (flags_checked sh n fs)
+    unfolding flags_checked and_then check checked value_of refusal fault_number
     checked-flags b p q v =
         rw (fits, both_true (eqb n z.bytes) (eqb (length fs) z.cells) (eq-eqb _ _ p) (eq-eqb _ _ q), v) (by b)
       where
-        by : (b : Bool) → answer_value (cond b Done (Refused (Plain FlagValue))) ≡ checked (cond b (passes tt) (fails 5))
+        by : (b : Bool) → value_of {A = Unit} (cond b (Ok tt) (Err (Plain FlagValue))) ≡ checked (cond b (passes tt) (fails 5))
         by true = refl
         by false = refl
 

@@ -8,23 +8,18 @@ use native.Mathlib.Nat.{one-mul}
 use native.Mathlib.Decide.{ℕ_discrete}
 use native.Mathlib.Omega.{arith}
 use lib.ListN.{length, get_or}
-use Rattle.answer.specs.declared.Refusal.{Refusal}
-use Rattle.answer.specs.Values.{passes, checked}
+use Rattle.answer.specs.Values.{passes}
 use Rattle.answer.proofs.Values.{passes-injective}
 use Rattle.span.specs.Decision.{Decides}
 use Rattle.span.proofs.Decision.{decides-yes, decides-no, decides-map}
 use Rattle.shape.specs.declared.Shape.{Shape}
 use Rattle.shape.specs.declared.Line.{Line}
-use Rattle.shape.specs.declared.LineAnswer.{LineAnswer}
-use Rattle.shape.specs.declared.LineAnswer.TheVariants.{Refused}
-use Rattle.shape.specs.Shapes.{Valid, AxisLine, IsLine, along, line_of, line_value}
+use Rattle.shape.specs.Shapes.{Valid, AxisLine, IsLine, along, lines_of, line_of}
 use Rattle.shape.specs.Flags.{missing, none_missing}
-use Rattle.shape.proofs.Valid.{line_refused}
 use Rattle.shape.proofs.Missing.{none-missing}
 use Rattle.shape.proofs.Geometry.{axis-cases, axis-line-every, all-axes, line-stride-pos}
 use Rattle.data.specs.Data.{layer}
 use Rattle.cube.specs.Cube.{layer_line, CodeCube}
-use Rattle.cube.proofs.AxisRuns.{lines-ended}
 use Rattle.line.specs.declared.Run.{Run}
 use Rattle.line.specs.Run.{line_at, Inside, CheckRun}
 use Rattle.line.proofs.Codeword.{codeword-cong}
@@ -96,12 +91,10 @@ module _ (sh : Shape) (axis : ℕ) (P : ℕ → ℕ → ℕ → Type 0) where
         | no ne ↦ h k (omega arith) x f
       ]
 
-  pub below_all : (m : ℕ) (x : LineAnswer) (f : Refusal) → Valid sh → 1 ≤ axis → axis ≤ 3 → Below m
-      → line_value x ≡ checked (line_of sh axis m) → x ≡ Refused f
+  pub below_all : (m : ℕ) → Valid sh → lines_of sh axis ≤ m → Below m
       → (first stride len : ℕ) → AxisLine sh axis first stride len → P first stride len
-  below_all m x f v p q h e g first stride len l =
-      let (k, low, high, b, found) = axis-line-every sh axis first stride len v l in
-      h k (omega (arith, lines-ended sh axis m f v p q (line_refused sh axis m x f e g))) _ found
+  below_all m v le h first stride len l =
+      let (k, low, high, b, found) = axis-line-every sh axis first stride len v l in h k (omega arith) _ found
 
 module _ (r : ℕ) (sh : Shape) (xs fs : List ℕ) where
   pub axis-right : (axis : ℕ) → AllRight r sh xs fs → AxisRight r sh xs fs axis

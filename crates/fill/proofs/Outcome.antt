@@ -1,5 +1,7 @@
 -- What the steps of a call add up to. Peeling ends at the largest stopping set K. If every line without a cell of K is right, the cube is the
 -- filling; if not, a filling would agree with the cube on each of these lines, and be right there.
+use Rattle.std.specs.Prelude.{Result, Ok, Err, IsErrAnd}
+use Rattle.std.proofs.lemmas.Result.{err_from_is_err_and}
 use mathlib.Core.Path.{◌≡◌, refl, sym, ap, ◌∙◌}
 use mathlib.Core.Bool.{true, false, true≢false}
 use mathlib.Core.List.{List}
@@ -13,11 +15,9 @@ use lib.Seq.{ext_get_or}
 use Rattle.answer.specs.declared.Fault.TheVariants.{Contradiction}
 use Rattle.answer.specs.declared.Refusal.{Refusal}
 use Rattle.answer.specs.declared.Refusal.TheVariants.{Plain}
-use Rattle.answer.specs.declared.Answer.{Answer}
-use Rattle.answer.specs.declared.Answer.TheVariants.{Refused}
 use Rattle.answer.specs.Refusals.{fault_number}
-use Rattle.answer.specs.Values.{passes, checked, refusal, answer_value}
-use Rattle.answer.proofs.Values.{answer-failed}
+use Rattle.answer.specs.Values.{passes, checked, refusal, value_of}
+use Rattle.answer.proofs.Values.{value-failed}
 use Rattle.shape.specs.declared.Shape.{Shape}
 use Rattle.shape.specs.Shapes.{cells, IsLine}
 use Rattle.data.specs.Data.{layer}
@@ -27,7 +27,6 @@ use Rattle.stopping.specs.Stopping.{number, Largest}
 use Rattle.stopping.proofs.Number.{true-or-false}
 use Rattle.stopping.proofs.Stopping.{on_line-cong, on_line-zero, largest-cong, peel-end}
 use Rattle.stopping.proofs.Cube.{cube-fits}
-use Rattle.fill.specs.declared.FillAnswer.TheVariants.{Left, Refused as NotFilled}
 use Rattle.shape.specs.Flags.{missing}
 use Rattle.fill.specs.Fill.{CellsLeft, fill_value, flags_checked, Filling, Cleared, Flagged, FillOutcome, fill_refused, fill_done, fill_contradiction}
 use Rattle.peel.specs.Peel.{Sized, Stops, Agrees, Peeled}
@@ -51,12 +50,14 @@ settled-missing gs hs r n l =
 
 -- ---- refused by the checks
 
-pub fill-unfit : (r : ℕ) (sh : Shape) (xs fs : List ℕ) (answer : Answer) (f : Refusal)
-    → answer_value answer ≡ checked (flags_checked sh (length xs) fs) → answer ≡ Refused f → FillOutcome r sh xs fs xs fs (fill_value (NotFilled f))
+pub fill-unfit : (r : ℕ) (sh : Shape) (xs fs : List ℕ) (answer : Result Unit Refusal) (f : Refusal) (on : Result ℕ Refusal)
+    → value_of answer ≡ checked (flags_checked sh (length xs) fs) → answer ≡ Err f → IsErrAnd on (λ g. g ≡ f)
+    → FillOutcome r sh xs fs xs fs (fill_value on)
 unfolding fill_value
-fill-unfit r sh xs fs answer f e p =
-    let (n, failed, value) = answer-failed {B = CellsLeft} answer _ f e p in
-    rw value (fill_refused n failed refl refl)
+fill-unfit r sh xs fs answer f on e p handed =
+    let (n, failed, value) = value-failed {B = CellsLeft} answer _ f e p in
+    let (g, is, same) = err_from_is_err_and on handed in
+    rw (is, same, value) (fill_refused n failed refl refl)
 
 module _ (r : ℕ) (sh : Shape) (xs fs zs ys gs : List ℕ) (done : flags_checked sh (length xs) fs ≡ passes tt)
     (c : Cleared sh xs (missing fs) zs) (p : Peeled r sh zs fs ys gs) where
@@ -142,7 +143,7 @@ module _ (r : ℕ) (sh : Shape) (xs fs zs ys gs : List ℕ) (done : flags_checke
         }
 
     pub filled-outcome : ((q : ℕ) → get_or ys q 0 < 256) → AllRight r sh ys gs → (n : ℕ) → n ≡ number (missing hs) (length gs)
-        → FillOutcome r sh xs fs ys hs (fill_value (Left n))
+        → FillOutcome r sh xs fs ys hs (fill_value (Ok n))
     unfolding fill_value
     filled-outcome bytes h n e =
         rw (e ∙ ap (number (missing hs)) gs-size)
@@ -165,27 +166,23 @@ module _ (r : ℕ) (sh : Shape) (xs fs zs ys gs : List ℕ) (done : flags_checke
       filling-agrees v f (first + stride * i) w (cube-fits sh first stride len l i b) m (on_line-zero (missing gs) first stride len e i b))
       (f.lines first stride len l e w m)
 
-  module _ (ws hs : List ℕ) (d : Cleared sh ys (is_marked gs) ws) (m : Remarked 1 gs hs) where
-    restored-flags : hs ≡ fs
-    restored-flags =
-        ext_get_or 0 hs fs (m.size ∙ p.reaches.flags)
-        (λ n l.
-        ⊎_elim (λ (e : is_marked gs n ≡ true). m.marks n (omega (arith, m.size)) e ∙ sym (filled-then n e))
-        (λ (e : is_marked gs n ≡ false). m.others n e ∙ kept_then n e) (true-or-false (is_marked gs n)))
+  -- the flags with the filled cells missing again are those at entry
+  pub restored-flags : (hs : List ℕ) → Remarked 1 gs hs → hs ≡ fs
+  restored-flags hs m =
+      ext_get_or 0 hs fs (m.size ∙ p.reaches.flags)
+      (λ n l.
+      ⊎_elim (λ (e : is_marked gs n ≡ true). m.marks n (omega (arith, m.size)) e ∙ sym (filled-then n e))
+      (λ (e : is_marked gs n ≡ false). m.others n e ∙ kept_then n e) (true-or-false (is_marked gs n)))
 
-    restored-known : (n w : ℕ) → n < cells sh → w < sh.w → missing fs n ≡ false → layer sh ws w n ≡ layer sh xs w n
-    restored-known n w l b e =
-        ⊎_elim (λ (k : is_marked gs n ≡ true). absurd (true≢false (sym (missing-one fs n (filled-then n k)) ∙ e)))
-        (λ (k : is_marked gs n ≡ false). d.known n w l b k ∙ peeled-known n w l b e) (true-or-false (is_marked gs n))
-
-    restored-missing : (n w : ℕ) → n < cells sh → w < sh.w → missing fs n ≡ true → layer sh ws w n ≡ 0
-    restored-missing n w l b e =
-        ⊎_elim (λ (k : is_marked gs n ≡ true). d.missing n w l b k)
-        (λ (k : is_marked gs n ≡ false). d.known n w l b k ∙ peeled-left n w l b (missing-cong fs gs n (kept_then n k) ∙ e))
-        (true-or-false (is_marked gs n))
-
-    pub contradiction-outcome : (AllRight r sh ys gs → ⊥) → FillOutcome r sh xs fs ws hs (fill_value (NotFilled (Plain Contradiction)))
-    unfolding fill_value refusal fault_number
-    contradiction-outcome wrong =
-        fill_contradiction done (missing gs) peeled-largest (λ v f. wrong (filling-right v f))
-        (record { size = d.size ∙ p.reaches.size ∙ c.size; known = restored-known; missing = restored-missing }) restored-flags
+  pub contradiction-outcome : (AllRight r sh ys gs → ⊥) → (hs : List ℕ) → Remarked 1 gs hs → (ws : List ℕ) → Cleared sh ys (missing hs) ws
+      → FillOutcome r sh xs fs ws hs (fill_value (Err (Plain Contradiction)))
+  unfolding fill_value refusal fault_number
+  contradiction-outcome wrong hs m ws d =
+      let same : hs ≡ fs = restored-flags hs m in
+      let e : Cleared sh ys (missing fs) ws = rw same at d in
+      fill_contradiction done (missing gs) peeled-largest (λ v f. wrong (filling-right v f))
+      (record {
+        size = e.size ∙ p.reaches.size ∙ c.size;
+        known = λ n w l b k. e.known n w l b k ∙ peeled-known n w l b k;
+        missing = e.missing;
+      }) same

@@ -1,5 +1,6 @@
 -- What follows from the contract of `fill` alone. Where the known cells are those of a code cube there is no contradiction, and the cube left is
 -- that code cube with 00h on the cells left. 26 or fewer missing cells leave none.
+use Rattle.std.specs.Prelude.{Result, Ok, Err}
 use mathlib.Core.Path.{◌≡◌, refl, sym, ap, subst, ◌∙◌}
 use mathlib.Core.Bool.{Bool, true, false, cond, true≢false}
 use mathlib.Core.List.{List, [], ◌∷◌}
@@ -24,8 +25,6 @@ use Rattle.stopping.specs.Stopping.{number, Largest}
 use Rattle.stopping.proofs.Number.{not-true-false, number-le, number-zero}
 use Rattle.stopping.proofs.Stopping.{on_line-zero, stopping-size}
 use Rattle.stopping.proofs.Cube.{stopping-none-or-27}
-use Rattle.fill.specs.declared.FillAnswer.{FillAnswer}
-use Rattle.fill.specs.declared.FillAnswer.TheVariants.{Left, Refused}
 use Rattle.fill.specs.Fill.{CellsLeft, left, fill_value, flags_checked, Filling, Cleared, Flagged, FillOutcome, fill_refused, fill_done, fill_contradiction}
 use Rattle.fill.proofs.Checks.{done-sized}
 use Rattle.fill.proofs.Unique.{layers-ext, filling-unique, done_refused}
@@ -161,20 +160,20 @@ module _ {r : ℕ} {sh : Shape} {xs fs xs' fs' : List ℕ} where
 
 -- ---- a value names one answer
 
-pub fill-injective : (a b : FillAnswer) → fill_value a ≡ fill_value b → a ≡ b
+pub fill-injective : (a b : Result ℕ Refusal) → fill_value a ≡ fill_value b → a ≡ b
 unfolding fill_value
-fill-injective (Left m) (Left n) e = cc
-fill-injective (Left m) (Refused f) e = absurd (refusal-gives f (left m) (sym e))
-fill-injective (Refused f) (Left n) e = absurd (refusal-gives f (left n) e)
-fill-injective (Refused f) (Refused g) e = ap Refused (refusal-injective f g e)
+fill-injective (Ok m) (Ok n) e = cc
+fill-injective (Ok m) (Err f) e = absurd (refusal-gives f (left m) (sym e))
+fill-injective (Err f) (Ok n) e = absurd (refusal-gives f (left n) e)
+fill-injective (Err f) (Err g) e = ap Err (refusal-injective f g e)
 
 -- what a caller learns from an answer
-pub left-outcome : {r : ℕ} {sh : Shape} {xs fs xs' fs' : List ℕ} (a : FillAnswer) (n : ℕ) → FillOutcome r sh xs fs xs' fs' (fill_value a) → a ≡ Left n
+pub left-outcome : {r : ℕ} {sh : Shape} {xs fs xs' fs' : List ℕ} (a : Result ℕ Refusal) (n : ℕ) → FillOutcome r sh xs fs xs' fs' (fill_value a) → a ≡ Ok n
     → FillOutcome r sh xs fs xs' fs' (gives (left n))
 unfolding fill_value
 left-outcome a n o e = rw e at o
 
-pub refused-outcome : {r : ℕ} {sh : Shape} {xs fs xs' fs' : List ℕ} (a : FillAnswer) (f : Refusal) → FillOutcome r sh xs fs xs' fs' (fill_value a)
-    → a ≡ Refused f → FillOutcome r sh xs fs xs' fs' (refusal f)
+pub refused-outcome : {r : ℕ} {sh : Shape} {xs fs xs' fs' : List ℕ} (a : Result ℕ Refusal) (f : Refusal) → FillOutcome r sh xs fs xs' fs' (fill_value a)
+    → a ≡ Err f → FillOutcome r sh xs fs xs' fs' (refusal f)
 unfolding fill_value
 refused-outcome a f o e = rw e at o

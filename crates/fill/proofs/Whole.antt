@@ -1,4 +1,5 @@
 -- A cube with no cell missing: filling it is checking it.
+use Rattle.std.specs.Prelude.{Ok, Err}
 use mathlib.Core.Path.{◌≡◌, refl, sym, subst, ◌∙◌}
 use mathlib.Core.Bool.{Bool, true, false, false≢true}
 use mathlib.Core.List.{List}
@@ -18,7 +19,6 @@ use Rattle.cube.specs.Cube.{CodeCube}
 use Rattle.stopping.specs.Stopping.{Largest}
 use Rattle.stopping.proofs.Number.{not-true-false, number-none}
 use Rattle.stopping.proofs.Stopping.{on_line-none}
-use Rattle.fill.specs.declared.FillAnswer.TheVariants.{Left, Refused}
 use Rattle.fill.specs.Fill.{CellsLeft, left, fill_value, flags_checked, Filling, FillOutcome, fill_done, fill_contradiction}
 use Rattle.fill.specs.Inner.Verify.{WholeChecked}
 use Rattle.fill.proofs.Checks.{done-sized}
@@ -89,10 +89,10 @@ module _ (r : ℕ) (sh : Shape) (xs fs : List ℕ) (none : none_missing fs ≡ t
 
 -- ---- what the check answers
 
-pub whole_code : (r : ℕ) (sh : Shape) (xs : List ℕ) → CodeCube r sh xs → WholeChecked r sh xs (fill_value (Left 0))
+pub whole_code : (r : ℕ) (sh : Shape) (xs : List ℕ) → CodeCube r sh xs → WholeChecked r sh xs (fill_value (Ok 0))
 unfolding WholeChecked fill_value
 whole_code r sh xs code = inl (code, refl)
 
-pub whole-other : (r : ℕ) (sh : Shape) (xs : List ℕ) → (CodeCube r sh xs → ⊥) → WholeChecked r sh xs (fill_value (Refused (Plain Contradiction)))
+pub whole-other : (r : ℕ) (sh : Shape) (xs : List ℕ) → (CodeCube r sh xs → ⊥) → WholeChecked r sh xs (fill_value (Err (Plain Contradiction)))
 unfolding WholeChecked fill_value refusal fault_number
 whole-other r sh xs wrong = inr (wrong, refl)

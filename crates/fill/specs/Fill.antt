@@ -1,6 +1,7 @@
 -- Filling (document 01, "Filling"): iterative erasure decoding of a cube, and what the call `fill` answers and leaves for every input. r is the
 -- field's reduction byte.
-use Rattle.std.specs.Prelude.{◌≡◌, Bool, true, false, List, ℕ, ◌<◌, eqb, length, get_or}
+use Rattle.answer.specs.declared.Refusal.{Refusal}
+use Rattle.std.specs.Prelude.{◌≡◌, Bool, true, false, List, ℕ, ◌<◌, eqb, length, get_or, Result, Ok, Err}
 use Rattle.answer.specs.Values.{Value, gives, refused, Checked, passes, fails, check, and_then, refusal}
 use Rattle.shape.specs.declared.Shape.{Shape}
 use Rattle.shape.specs.Shapes.{both, cells, shape_checked, IsLine}
@@ -9,17 +10,15 @@ use Rattle.line.specs.Line.{Codeword}
 use Rattle.data.specs.Data.{layer}
 use Rattle.cube.specs.Cube.{layer_line}
 use Rattle.stopping.specs.Stopping.{number, on_line, Largest}
-use Rattle.fill.specs.declared.FillAnswer.{FillAnswer}
-use Rattle.fill.specs.declared.FillAnswer.TheVariants.{Left, Refused}
 
 -- "the answer carries K's size"
 pub data CellsLeft : Type 0 where
   left : (cells : ℕ) → CellsLeft
 
 -- what `fill` answers
-unfoldable pub fill_value : FillAnswer → Value CellsLeft
-fill_value (Left n) = gives (left n)
-fill_value (Refused f) = refusal f
+unfoldable pub fill_value : Result ℕ Refusal → Value CellsLeft
+fill_value (Ok n) = gives (left n)
+fill_value (Err f) = refusal f
 
 -- The checks 1, 2, 3, 4, 5 in this order; request P5: "5 a flag above 2".
 unfoldable pub flags_checked : Shape → ℕ → List ℕ → Checked Unit

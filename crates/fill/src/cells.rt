@@ -4,7 +4,7 @@ ghost use Rattle.stopping.specs.Stopping.{number};
 ghost use Rattle.shape.specs.Flags.{missing};
 ghost use Rattle.peel.specs.Peel.{Sized};
 ghost use Rattle.fill.specs.Fill.{Cleared};
-ghost use Rattle.shape.specs.Inner.Marks.{is_marked, Remarked};
+ghost use Rattle.shape.specs.Inner.Marks.{Remarked};
 
 use shape::Shape;
 
@@ -14,12 +14,10 @@ pub(crate) fn clear_missing(cube: &mut [u8], flags: &[u8], sh: Shape)
     ensures { Cleared sh cube.old (missing flags.now) cube.new }
 {
     let w = sh.w;
-    let mut n = 0;
-    while n < flags.len() {
-        if flags[n] == 1 {
+    for (n, flag) in flags.iter().enumerate() {
+        if *flag == 1 {
             span::set(cube, n * w, w, 0);
         }
-        n += 1;
     }
 }
 
@@ -28,34 +26,27 @@ pub(crate) fn settle(flags: &mut [u8]) -> usize
     ensures remarked { Remarked 0 flags.old flags.new }
     ensures value { result ≡ number (missing flags.new) (length flags.old) }
 {
-    let mut left = 0;
-    let mut n = 0;
-    while n < flags.len() {
-        let flag = flags[n];
-        if flag == 3 {
-            flags[n] = 0;
-        }
-        if flag == 1 {
-            left += 1;
-        }
-        n += 1;
-    }
-    left
+    remark(flags, 0);
+    flags.iter().filter(|flag| **flag == 1).count()
 }
 
-// After a contradiction: filled cells are missing again, and cleared.
+// After a contradiction: filled cells are missing again, and every missing cell is cleared.
 pub(crate) fn restore(cube: &mut [u8], flags: &mut [u8], sh: Shape)
     requires { Sized sh cube.old flags.old }
-    ensures cleared { Cleared sh cube.old (is_marked flags.old) cube.new }
+    ensures cleared { Cleared sh cube.old (missing flags.new) cube.new }
     ensures remarked { Remarked 1 flags.old flags.new }
 {
-    let w = sh.w;
-    let mut n = 0;
-    while n < flags.len() {
-        if flags[n] == 3 {
-            flags[n] = 1;
-            span::set(cube, n * w, w, 0);
+    remark(flags, 1);
+    clear_missing(cube, flags, sh);
+}
+
+// Gives every filled cell this flag.
+fn remark(flags: &mut [u8], v: u8)
+    ensures { Remarked v flags.old flags.new }
+{
+    for flag in flags.iter_mut() {
+        if *flag == 3 {
+            *flag = v;
         }
-        n += 1;
     }
 }

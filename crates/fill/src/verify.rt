@@ -8,21 +8,19 @@ ghost use Rattle.fill.specs.Fill.{fill_value};
 ghost use Rattle.peel.specs.Peel.{Sized};
 ghost use Rattle.fill.specs.Inner.Verify.{Right, AxisRight, AllRight, WholeChecked};
 
-use crate::FillAnswer;
 use answer::{Fault, Refusal};
-use cube::CubeCheck;
 use line::Run;
-use shape::{Line, LineAnswer, Shape};
+use shape::{Line, Shape};
 
 // With no cell missing a filling is a check of the cube.
-pub(crate) fn whole(cube: &[u8], sh: Shape) -> FillAnswer
+pub(crate) fn whole(cube: &[u8], sh: Shape) -> Result<usize, Refusal>
     requires { Valid sh × (length cube.now ≡ sh.w * cells sh) }
     ensures { WholeChecked reduction sh cube.now (fill_value result) }
 {
     if is_code(cube, sh) {
-        FillAnswer::Left(0)
+        Ok(0)
     } else {
-        FillAnswer::Refused(Refusal::Plain(Fault::Contradiction))
+        Err(Refusal::Plain(Fault::Contradiction))
     }
 }
 
@@ -31,52 +29,45 @@ pub(crate) fn verify(cube: &[u8], flags: &[u8], sh: Shape) -> bool
     requires { Sized sh cube.now flags.now }
     ensures { Decides (AllRight reduction sh cube.now flags.now) result }
 {
-    if !shape::flags::none_missing(flags) {
-        return verify_lines(cube, flags, sh);
+    if shape::flags::none_missing(flags) {
+        is_code(cube, sh)
+    } else {
+        verify_lines(cube, flags, sh)
     }
-    is_code(cube, sh)
 }
 
-// Whether a cube of this shape is a code cube.
+// Whether a cube of this shape is a code cube: such a cube is not refused.
 fn is_code(cube: &[u8], sh: Shape) -> bool
     requires { Valid sh × (length cube.now ≡ sh.w * cells sh) }
     ensures { Decides (CodeCube reduction sh cube.now) result }
 {
-    match cube::is_code_cube(cube, sh) {
-        CubeCheck::Code(code) => code,
-        CubeCheck::Refused(_) => false,
-    }
+    cube::is_code_cube(cube, sh).unwrap_or(false)
 }
 
 fn verify_lines(cube: &[u8], flags: &[u8], sh: Shape) -> bool
     requires { Sized sh cube.now flags.now }
     ensures { Decides (AllRight reduction sh cube.now flags.now) result }
 {
-    if !verify_axis(cube, flags, sh, 1) {
-        return false;
-    }
-    if !verify_axis(cube, flags, sh, 2) {
-        return false;
-    }
-    verify_axis(cube, flags, sh, 3)
+    verify_axis(cube, flags, sh, 1)
+        && verify_axis(cube, flags, sh, 2)
+        && verify_axis(cube, flags, sh, 3)
 }
 
+// An axis has at most 255 * 255 lines; a call of `axis_line` past its last one is refused.
 fn verify_axis(cube: &[u8], flags: &[u8], sh: Shape, axis: usize) -> bool
     requires sized { Sized sh cube.now flags.now }
     requires le_axis { (1 ≤ axis) × (axis ≤ 3) }
     ensures { Decides (AxisRight reduction sh cube.now flags.now axis) result }
 {
-    let mut m = 0;
-    loop {
-        let found = shape::axis_line(sh, axis, m);
-        let LineAnswer::Found(line) = found else {
+    for m in 0..65025 {
+        let Ok(line) = shape::axis_line(sh, axis, m) else {
             return true;
         };
         if !verify_line(cube, flags, sh, line) {
             return false;
         }
-        m += 1;
     }
+    true
 }
 
 fn verify_line(cube: &[u8], flags: &[u8], sh: Shape, line: Line) -> bool

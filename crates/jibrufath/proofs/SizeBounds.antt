@@ -1,12 +1,13 @@
 -- Sizes of a shape that passes its checks, times 256, fit a machine word.
-use mathlib.Core.Path.{◌≡◌, sym}
+use Rattle.std.specs.Prelude.{Result, Ok, Err, MatchResult, IsOkAnd}
+use mathlib.Core.Path.{◌≡◌, sym, ap, ◌∙◌}
 use mathlib.Core.List.{[], ◌∷◌}
-use Prim.Native.Nat.{ℕ, ◌+◌, ◌-◌, ◌≤◌}
+use Prim.Native.Nat.{ℕ, ◌+◌, ◌-◌, ◌^◌, ◌≤◌, ◌<◌}
 use native.Mathlib.Nat.{mul-le-mul}
 use native.Mathlib.Omega.{arith}
 use Rattle.answer.specs.declared.Refusal.{Refusal}
-use Rattle.answer.specs.Values.{passes, checked, refusal}
-use Rattle.answer.proofs.Values.{passes-injective, checked-passes, then-passed}
+use Rattle.answer.specs.Values.{passes, checked, value_of, number_of}
+use Rattle.answer.proofs.Values.{passes-injective, then-passed}
 use Rattle.shape.specs.declared.Shape.{Shape}
 use Rattle.shape.specs.declared.Sizes.{Sizes}
 use Rattle.shape.specs.Shapes.{Valid, cells, capacity, sizes, shape_checked}
@@ -17,10 +18,10 @@ use Rattle.pack.specs.Packs.{sends, air_size, pack_size}
 use Rattle.pack.specs.Reading.{header_with, header_for}
 use Rattle.pack.proofs.Sound.{cells_le}
 use Rattle.pack.specs.declared.Header.{Header}
-use Rattle.pack_writer.specs.declared.PackSize.{PackSize}
-use Rattle.pack_writer.specs.declared.PackSize.TheVariants.{Bytes, Refused}
-use Rattle.pack_writer.specs.Writing.{size_checked, size_value}
+use Rattle.pack_writer.specs.Writing.{size_checked}
+use Rattle.jibrufath.specs.Exports.{whole, beside, packed}
 use Rattle.jibrufath.specs.Needs.{needs_of}
+use Rattle.jibrufath.proofs.Words.{refusal-number, refusal-beside, checked-below}
 
 pub record Bounded (z : Sizes) : Type 0 where
   pub cells_le : z.cells ≤ 16581375
@@ -38,16 +39,32 @@ sizes-bounded sh z e =
       capacity_le = rw same (bytes_le _ _ v.w_high volume);
     }
 
+-- ---- one size, taken out of what `measure` answers
+
+-- its word carries the size of the sizes, where a call of the closure answers that
+size-taken : (size : Sizes → ℕ) (Call : Sizes → ℕ → Type 0) (r : Result Sizes Refusal) (m : Result ℕ Refusal)
+    → ((z : Sizes) (n : ℕ) → Call z n → n ≡ size z) → MatchResult r (λ z. IsOkAnd m (Call z)) (λ f. m ≡ Err f)
+    → (packed whole (value_of m) ≡ packed size (value_of r)) × (beside whole (value_of m) ≡ beside size (value_of r))
+unfolding packed beside whole value_of number_of
+size-taken size Call (Ok z) (Ok n) call h = let e = call z n h in (rw e, e)
+size-taken size Call (Ok z) (Err f) call h = absurd h
+size-taken size Call (Err f) m call h =
+    let above = refusal-beside whole f ∙ sym (refusal-beside size f) in
+    let number = refusal-number ℕ f ∙ sym (refusal-number Sizes f) in
+    (rw (h, number, above), rw h above)
+
+module _ (size : Sizes → ℕ) (Call : Sizes → ℕ → Type 0) (sh : Shape) (r : Result Sizes Refusal) (m : Result ℕ Refusal)
+    (measured : value_of r ≡ checked (shape_checked sh)) (taken : MatchResult r (λ z. IsOkAnd m (Call z)) (λ f. m ≡ Err f))
+    (call : (z : Sizes) (n : ℕ) → Call z n → n ≡ size z) where
+  pub size-lt : ((z : Sizes) → Bounded z → size z < 2 ^ 45) → beside whole (value_of m) < 2 ^ 45
+  size-lt small =
+      rw ((size-taken size Call r m call taken).1, measured)
+      (checked-below size (shape_checked sh) (2 ^ 45) (omega arith) (λ z e. small z (sizes-bounded sh z e)))
+
+  pub size-packed : packed whole (value_of m) ≡ packed size (checked (shape_checked sh))
+  size-packed = (size-taken size Call r m call taken).0 ∙ ap (packed size) measured
+
 -- ---- the size of a pack
-
-pub size-told : (sh : Shape) (r : PackSize) (n : ℕ) → size_value r ≡ checked (size_checked sh) → r ≡ Bytes n → size_checked sh ≡ passes n
-unfolding size_value
-size-told sh r n e q = checked-passes (size_checked sh) n (rw q at e)
-
-pub size-refused : (sh : Shape) (r : PackSize) (f : Refusal) → size_value r ≡ checked (size_checked sh) → r ≡ Refused f
-    → refusal f ≡ checked (size_checked sh)
-unfolding size_value
-size-refused sh r f e q = rw q at e
 
 -- a size was told of a valid shape, and is its pack's
 size-valid : (sh : Shape) (n : ℕ) → size_checked sh ≡ passes n → Valid sh × (n ≡ pack_size (header_for sh))

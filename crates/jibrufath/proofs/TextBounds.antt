@@ -1,10 +1,12 @@
 -- What the text calls name and count fits a word: a line or an index is below 2^45, and so are the sizes of a text and of its pack.
+use Rattle.answer.specs.declared.Refusal.{Refusal}
+use Rattle.std.specs.Prelude.{Result, Ok}
 use mathlib.Core.Path.{◌≡◌, refl, sym, ◌∙◌}
 use mathlib.Core.List.{List}
 use Prim.Native.Nat.{ℕ, ◌^◌, ◌≤◌, ◌<◌}
 use native.Mathlib.Omega.{arith}
 use lib.ListN.{length, get_or}
-use Rattle.answer.specs.Values.{Value, Checked, passes, fails, checked}
+use Rattle.answer.specs.Values.{Value, Checked, passes, fails, checked, value_of}
 use Rattle.answer.proofs.Values.{check-passed, then-passed}
 use Rattle.shape.specs.declared.Shape.{Shape}
 use Rattle.pack.specs.declared.Header.{Header}
@@ -12,9 +14,7 @@ use Rattle.pack.specs.declared.Section.{Section}
 use Rattle.pack.specs.Packs.{air_size}
 use Rattle.pack.specs.Reading.{header_with, header_for, air_of, plain_air_of}
 use Rattle.pack.proofs.Sound.{air-sound, plain-air, packets-le}
-use Rattle.pack_writer.specs.declared.PackSize.{PackSize}
-use Rattle.pack_writer.specs.declared.PackSize.TheVariants.{Bytes}
-use Rattle.pack_writer.specs.Writing.{size_value, air_size_checked}
+use Rattle.pack_writer.specs.Writing.{air_size_checked}
 use Rattle.pack_writer.proofs.Starting.{air-size-passed}
 use Rattle.text.specs.Form.{Broken, first_broken, packet_broken}
 use Rattle.text.specs.Text.{text_in, write_text_checked, text_size_checked, WriteTextOutcome, write_refused, write_outside, write_done, ReadTextOutcome, read_broken, read_refused, read_outside, read_done, PackSizeOutcome, size_broken, size_found}
@@ -72,6 +72,6 @@ unfolding beside whole
 pack-size-lt (size_broken n b) = omega (arith, broken-le b)
 pack-size-lt (size_found sh ks form _) = air-size-lt sh (length ks) (air_size_checked sh (length ks)) refl form.most
 
-pub size-beside : (size : PackSize) (n : ℕ) → size ≡ Bytes n → beside whole (size_value size) ≡ n
-unfolding beside whole size_value
+pub size-beside : (size : Result ℕ Refusal) (n : ℕ) → size ≡ Ok n → beside whole (value_of size) ≡ n
+unfolding beside whole value_of
 size-beside size n e = rw e

@@ -77,3 +77,9 @@ module _ {A : Type 0} (count : A → ℕ) where
   pub checked-result : (c : Checked A) (a : A) → c ≡ passes a → 256 * count a ≡ packed count (checked c)
   unfolding checked
   checked-result c a e = sym (packed-result count (checked c) a (rw e))
+
+  -- what stands above the number of a check is below what every result counts below
+  pub checked-below : (c : Checked A) (b : ℕ) → 0 < b → ((a : A) → c ≡ passes a → count a < b) → beside count (checked c) < b
+  unfolding checked beside
+  checked-below (passes a) b z h = h a refl
+  checked-below (fails n) b z h = z

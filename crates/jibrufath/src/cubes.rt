@@ -6,8 +6,6 @@ ghost use Rattle.fill.specs.Fill.{FillOutcome};
 ghost use Rattle.mend.specs.Mend.{AxisOutcome, MendOutcome};
 ghost use Rattle.jibrufath.specs.Exports.{shape, Exported, uncounted, truth, cells_left};
 
-use cube::CubeCheck;
-use fill::FillAnswer;
 use shape::Shape;
 
 // Leaves in `cube` the one code cube that has the data string.
@@ -22,13 +20,8 @@ pub extern "C" fn jibrufath_encode(
 ) -> u64
     ensures { Exported uncounted (EncodeOutcome reduction (shape l1 l2 l3 w) «data».now cube.old cube.new) result }
 {
-    let sh = Shape {
-        l1: l1,
-        l2: l2,
-        l3: l3,
-        w: w,
-    };
-    crate::word(cube::encode(data, cube, sh))
+    let sh = Shape { l1, l2, l3, w };
+    crate::answer_word(cube::encode(data, cube, sh))
 }
 
 // Takes the data string out of a cube, whether or not that is a code cube.
@@ -43,13 +36,8 @@ pub extern "C" fn jibrufath_extract(
 ) -> u64
     ensures { Exported uncounted (ExtractOutcome (shape l1 l2 l3 w) cube.now «data».old «data».new) result }
 {
-    let sh = Shape {
-        l1: l1,
-        l2: l2,
-        l3: l3,
-        w: w,
-    };
-    crate::word(data::extract(cube, data, sh))
+    let sh = Shape { l1, l2, l3, w };
+    crate::answer_word(data::extract(cube, data, sh))
 }
 
 // Gives every missing cell the bytes that the lines force. The count is the number of cells left.
@@ -64,16 +52,10 @@ pub extern "C" fn jibrufath_fill(
 ) -> u64
     ensures { Exported cells_left (FillOutcome reduction (shape l1 l2 l3 w) cube.old flags.old cube.new flags.new) result }
 {
-    let sh = Shape {
-        l1: l1,
-        l2: l2,
-        l3: l3,
-        w: w,
-    };
-    let answer = fill::fill(cube, flags, sh);
-    match answer {
-        FillAnswer::Left(n) => 256 * (n as u64),
-        FillAnswer::Refused(f) => answer::number(f),
+    let sh = Shape { l1, l2, l3, w };
+    match fill::fill(cube, flags, sh) {
+        Ok(n) => 256 * (n as u64),
+        Err(f) => answer::number(f),
     }
 }
 
@@ -89,13 +71,8 @@ pub extern "C" fn jibrufath_mend_axis(
 ) -> u64
     ensures { Exported uncounted (AxisOutcome reduction (shape l1 l2 l3 w) axis cube.old cube.new) result }
 {
-    let sh = Shape {
-        l1: l1,
-        l2: l2,
-        l3: l3,
-        w: w,
-    };
-    crate::word(mend::mend_axis(cube, sh, axis))
+    let sh = Shape { l1, l2, l3, w };
+    crate::answer_word(mend::mend_axis(cube, sh, axis))
 }
 
 // Passes along axes 1, 2 and 3. Leaves in `second` what they lead to, if that is a code cube, else 00h.
@@ -111,13 +88,8 @@ pub extern "C" fn jibrufath_mend(
 ) -> u64
     ensures { Exported uncounted (MendOutcome reduction (shape l1 l2 l3 w) cube.now flags.now second.old second.new) result }
 {
-    let sh = Shape {
-        l1: l1,
-        l2: l2,
-        l3: l3,
-        w: w,
-    };
-    crate::word(mend::mend(cube, flags, second, sh))
+    let sh = Shape { l1, l2, l3, w };
+    crate::answer_word(mend::mend(cube, flags, second, sh))
 }
 
 // Whether the bytes are a code cube: the count is 1 where they are, 0 where not.
@@ -131,15 +103,9 @@ pub extern "C" fn jibrufath_is_code_cube(
 ) -> u64
     ensures { Exported truth (CheckOutcome reduction (shape l1 l2 l3 w) cube.now) result }
 {
-    let sh = Shape {
-        l1: l1,
-        l2: l2,
-        l3: l3,
-        w: w,
-    };
-    let answer = cube::is_code_cube(cube, sh);
-    match answer {
-        CubeCheck::Refused(f) => answer::number(f),
-        CubeCheck::Code(code) => if code { 256 } else { 0 },
+    let sh = Shape { l1, l2, l3, w };
+    match cube::is_code_cube(cube, sh) {
+        Err(f) => answer::number(f),
+        Ok(code) => if code { 256 } else { 0 },
     }
 }

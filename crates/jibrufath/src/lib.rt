@@ -12,30 +12,31 @@ mod sizes;
 mod texts;
 
 ghost use Rattle.std.specs.Prelude.{◌≡◌, ◌+◌, ◌*◌, ◌^◌, ◌<◌};
-ghost use Rattle.answer.specs.Values.{answer_value, refusal, number_of, place_of};
-ghost use Rattle.jibrufath.specs.Exports.{uncounted, beside, packed};
+ghost use Rattle.answer.specs.Values.{value_of, refusal, number_of, place_of};
+ghost use Rattle.jibrufath.specs.Exports.{uncounted, whole, beside, packed};
 
-use answer::{Answer, Refusal};
+use answer::Refusal;
 
-// The word of an answer that carries no count and names no place.
-pub(crate) fn word(answer: Answer) -> u64
-    ensures { result ≡ number_of (answer_value answer) }
+// The word of an answer that carries no count, whatever its result is.
+pub(crate) fn answer_word<T: Copy>(answer: Result<T, Refusal>) -> u64
+    requires { beside uncounted (value_of answer) < 2 ^ 45 }
+    ensures { result ≡ packed uncounted (value_of answer) }
 {
     match answer {
-        Answer::Done => 0,
-        Answer::Refused(f) => answer::number(f),
+        Ok(_) => 0,
+        Err(f) => refusal_word(f),
     }
 }
 
-// The word of an answer that carries no count.
-pub(crate) fn answer_word(answer: Answer) -> u64
-    requires { beside uncounted (answer_value answer) < 2 ^ 45 }
-    ensures { result ≡ packed uncounted (answer_value answer) }
+// The word of a size.
+pub(crate) fn size_word(size: Result<usize, Refusal>) -> u64
+    requires { beside whole (value_of size) < 2 ^ 45 }
+    ensures { result ≡ packed whole (value_of size) }
 {
-    let Answer::Refused(f) = answer else {
-        return 0;
-    };
-    refusal_word(f)
+    match size {
+        Ok(n) => 256 * (n as u64),
+        Err(f) => refusal_word(f),
+    }
 }
 
 // The word of a refusal: its number, and above it the place that it names.

@@ -3,7 +3,6 @@ ghost use Rattle.erasures.specs.Scan.{scan_of};
 ghost use Rattle.jibrufath.specs.Exports.{shape};
 ghost use Rattle.jibrufath.specs.Lines.{ScanExport};
 
-use erasures::ScanAnswer;
 use shape::Shape;
 
 // Scans a line of an axis up to its third erasure. The counts are the erasures found and the places read; both 0 with a refusal.
@@ -20,18 +19,13 @@ pub extern "C" fn jibrufath_scan(
 ) -> u64
     ensures { ScanExport (scan_of flags.now (shape l1 l2 l3 w) axis line) counts.new result }
 {
-    let sh = Shape {
-        l1: l1,
-        l2: l2,
-        l3: l3,
-        w: w,
-    };
+    let sh = Shape { l1, l2, l3, w };
     match erasures::scan(flags, sh, axis, line) {
-        ScanAnswer::Refused(f) => {
+        Err(f) => {
             *counts = [0; 2];
             answer::number(f)
         }
-        ScanAnswer::Scanned(s) => {
+        Ok(s) => {
             *counts = [s.erasures as u64, s.read as u64];
             0
         }

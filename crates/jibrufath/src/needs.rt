@@ -3,8 +3,7 @@ ghost use Rattle.std.specs.Prelude.{◌≡◌};
 ghost use Rattle.pack.proofs.Sound.{HeaderSound};
 ghost use Rattle.jibrufath.specs.Needs.{needs_of, NeedsExport};
 
-use pack::{Header, HeaderRead};
-use pack_writer::PackSize;
+use pack::Header;
 
 // The shape in section 1, the sizes of what its calls are lent, and the data cells in use; 16 zeros with a refusal.
 #[unsafe(no_mangle)]
@@ -12,11 +11,11 @@ pub extern "C" fn jibrufath_needs(pack: &[u8], needs: &mut [u64; 16]) -> u64
     ensures { NeedsExport pack.now needs.new result }
 {
     match pack::read_header(pack) {
-        HeaderRead::Refused(f) => {
+        Err(f) => {
             *needs = [0; 16];
             answer::number(f)
         }
-        HeaderRead::Headed(h, _) => {
+        Ok((h, _)) => {
             *needs = needs_of(h);
             0
         }
@@ -31,8 +30,8 @@ fn needs_of(h: Header) -> [u64; 16]
     let sh = h.shape;
     let z = h.sizes;
     match pack_writer::written_bytes(h) {
-        PackSize::Refused(_) => [0; 16],
-        PackSize::Bytes(size) => [
+        Err(_) => [0; 16],
+        Ok(size) => [
             sh.l1 as u64,
             sh.l2 as u64,
             sh.l3 as u64,

@@ -1,16 +1,18 @@
 // The calls on splice plans: writing one, measuring and reading one, and receiving one with a pack.
-ghost use Rattle.std.specs.Prelude.{◌≡◌, ◌<◌, ◌^◌, length};
+ghost use Rattle.std.specs.Prelude.{◌≡◌, length};
+ghost use Rattle.answer.specs.Values.{value_of};
 ghost use Rattle.field.specs.Field.{reduction};
 ghost use Rattle.receiver.specs.Receive.{lent};
-ghost use Rattle.plan_form.specs.Form.{FormOutcome, plan_in, plan_value, lists};
+ghost use Rattle.plan_form.specs.Form.{FormOutcome, plan_in, lists};
 ghost use Rattle.plan.specs.Calls.{WritePlanOutcome, ReadPlanOutcome};
 ghost use Rattle.plan.specs.Receiving.{ReceivePlanOutcome};
-ghost use Rattle.jibrufath.specs.Exports.{Exported, uncounted, beside, packed};
+ghost use Rattle.jibrufath.specs.Exports.{Exported, uncounted};
 ghost use Rattle.jibrufath.specs.Plans.{entry_places, entries_in, PlanExport, ReceivePlanExport};
 
 use crate::answer_word;
 use crate::packs::{ending_word, receive_counts};
-use plan_form::{PlanCounts, PlanRead};
+use answer::Refusal;
+use plan_form::PlanCounts;
 
 // Writes the file of a plan.
 #[unsafe(no_mangle)]
@@ -32,7 +34,7 @@ pub extern "C" fn jibrufath_measure_plan(file: &[u8], entries: &mut [u64; 3]) ->
 {
     let read = plan_form::measure_plan(file);
     *entries = read_entries(read);
-    read_word(read)
+    answer_word(read)
 }
 
 // Reads the plan in a file: its entries begin the lists.
@@ -48,7 +50,7 @@ pub extern "C" fn jibrufath_read_plan(
 {
     let read = plan::read_plan(file, closures, fibres, splices);
     *entries = read_entries(read);
-    read_word(read)
+    answer_word(read)
 }
 
 // Receives an air pack and shows the plan in its file. The counts are those of the receiver.
@@ -68,21 +70,28 @@ pub extern "C" fn jibrufath_receive_plan(
         (lists closures.old fibres.old splices.old) (lists closures.new fibres.new splices.new))
         counts.new entries.new result }
 {
-    let shown = plan::receive_plan(air, cube, flags, file, closures, fibres, splices);
-    let received = shown.received;
-    let ending = received.ending;
-    *counts = receive_counts(ending, received.counts);
-    *entries = entry_places(shown.entries);
-    ending_word(ending)
+    match plan::receive_plan(air, cube, flags, file, closures, fibres, splices) {
+        Err(f) => {
+            *counts = [0; 16];
+            *entries = [0; 3];
+            crate::refusal_word(f)
+        }
+        Ok(shown) => {
+            let received = shown.received;
+            *counts = receive_counts(received);
+            *entries = entry_places(shown.entries);
+            ending_word(received.ending)
+        }
+    }
 }
 
 // The counts of entries of what was read, 0 with a refusal.
-fn read_entries(read: PlanRead) -> [u64; 3]
-    ensures { result ≡ entries_in (plan_value read) }
+fn read_entries(read: Result<PlanCounts, Refusal>) -> [u64; 3]
+    ensures { result ≡ entries_in (value_of read) }
 {
     match read {
-        PlanRead::Counted(n) => entry_places(n),
-        PlanRead::Refused(_) => [0; 3],
+        Ok(n) => entry_places(n),
+        Err(_) => [0; 3],
     }
 }
 
@@ -91,15 +100,4 @@ fn entry_places(n: PlanCounts) -> [u64; 3]
     ensures { result ≡ entry_places n }
 {
     [n.closures as u64, n.fibres as u64, n.splices as u64]
-}
-
-// The word of what was read.
-fn read_word(read: PlanRead) -> u64
-    requires { beside uncounted (plan_value read) < 2 ^ 45 }
-    ensures { result ≡ packed uncounted (plan_value read) }
-{
-    match read {
-        PlanRead::Counted(_) => 0,
-        PlanRead::Refused(f) => crate::refusal_word(f),
-    }
 }

@@ -1,12 +1,10 @@
 // The calls on texts: the text of an air pack, the air pack of a text, and how much memory each asks for.
-ghost use Rattle.std.specs.Prelude.{◌≡◌, ◌<◌, ◌^◌};
+ghost use Rattle.std.specs.Prelude.{◌≡◌};
 ghost use Rattle.answer.specs.Values.{checked};
-ghost use Rattle.pack_writer.specs.Writing.{size_value};
 ghost use Rattle.text.specs.Text.{WriteTextOutcome, ReadTextOutcome, PackSizeOutcome, text_size_checked};
-ghost use Rattle.jibrufath.specs.Exports.{Exported, uncounted, whole, beside, packed};
+ghost use Rattle.jibrufath.specs.Exports.{Exported, uncounted, whole, packed};
 
-use crate::answer_word;
-use pack_writer::PackSize;
+use crate::{answer_word, size_word};
 
 // Writes the text of an air pack.
 #[unsafe(no_mangle)]
@@ -38,15 +36,4 @@ pub extern "C" fn jibrufath_text_pack_bytes(text: &[u8]) -> u64
     ensures { Exported whole (PackSizeOutcome text.now) result }
 {
     size_word(text::text_pack_bytes(text))
-}
-
-// The word of a size.
-fn size_word(size: PackSize) -> u64
-    requires { beside whole (size_value size) < 2 ^ 45 }
-    ensures { result ≡ packed whole (size_value size) }
-{
-    match size {
-        PackSize::Bytes(n) => 256 * (n as u64),
-        PackSize::Refused(f) => crate::refusal_word(f),
-    }
 }

@@ -1,5 +1,5 @@
 -- Where the bytes of a run stand: when it lies inside a list, and that its lines and places do not meet.
-use mathlib.Core.Path.{◌≡◌, ap}
+use mathlib.Core.Path.{◌≡◌}
 use mathlib.Core.Logic.{◌⊎◌, ◌≢◌, inl, inr}
 use Prim.Native.Nat.{ℕ, suc, ◌+◌, ◌-◌, ◌*◌, ◌/◌, ◌≤◌, ◌<◌}
 use native.Mathlib.Nat.{mul-zero, mul-suc, mul-le-mul_left, le-div_iff_mul-le}
@@ -21,12 +21,6 @@ inside-last run n some few apart last =
       apart = apart;
       fits = λ i h. omega (arith, mul-le-mul_left {m = i} {n = run.len - 1} run.stride (omega arith));
     }
-
-pub inside_one :
-    (run : Run) (n : ℕ) → run.len ≡ 1 → run.width ≤ run.stride → run.first + run.width ≤ n → Inside run n
-inside_one run n one apart last =
-    inside-last run n (omega arith) (omega arith) apart
-    (omega (arith, ap (λ (l : ℕ). run.stride * (l - 1)) one, mul-zero run.stride))
 
 -- the first place of a run that lies inside
 pub inside-first : (run : Run) (n : ℕ) → Inside run n → run.first + run.width ≤ n

@@ -2,19 +2,19 @@
 ghost use Rattle.std.specs.Prelude.{◌≡◌, ◌<◌, ◌≤◌, length};
 ghost use Rattle.line.specs.Line.{syndrome0, syndrome1};
 ghost use Rattle.line.specs.Run.{Inside, Corrected, line_at};
-ghost use Rattle.line.specs.Inner.Block.{Syndromes, part};
+ghost use Rattle.line.specs.Inner.Wide.{Room};
+ghost use Rattle.line.specs.Inner.Block.{part};
 
 use crate::{Run, block, wide};
-use solver::Place;
 
 // Corrects every line of the run, block by block.
 pub(crate) fn correct_blocks(s: &mut [u8], reduction: u8, run: Run)
     requires { Inside run (length s.old) }
     ensures { Corrected reduction run s.old s.new }
 {
-    let width = run.width;
     let mut done = 0;
-    while done < width {
+    // Blocks differ in width, so that no range steps over them.
+    while done < run.width {
         let next = block::block_after(run, done);
         correct_block(s, reduction, next);
         done += next.width;
@@ -29,42 +29,22 @@ fn correct_block(s: &mut [u8], reduction: u8, run: Run)
     if block::codeword_block(s, reduction, run) {
         return;
     }
-    if run.width < 64 {
-        correct_narrow(s, reduction, run);
+    if run.width <= 64 {
+        correct_lines::<64>(s, reduction, run);
     } else {
-        correct_wide(s, reduction, run);
+        correct_lines::<4096>(s, reduction, run);
     }
 }
 
-fn correct_narrow(s: &mut [u8], reduction: u8, run: Run)
-    requires { (Inside run (length s.old)) × (run.width ≤ 64) }
+// One line a turn, with room for the syndromes of N lines.
+fn correct_lines<const N: usize>(s: &mut [u8], reduction: u8, run: Run)
+    requires { (Inside run (length s.old)) × Room run N }
     ensures { Corrected reduction run s.old s.new }
 {
-    let mut s0 = [0u8; 64];
-    let mut s1 = [0u8; 64];
-    wide::syndromes(s, &mut s0, &mut s1, reduction, run);
-    correct_lines(s, &s0, &s1, reduction, run);
-}
-
-fn correct_wide(s: &mut [u8], reduction: u8, run: Run)
-    requires { (Inside run (length s.old)) × (run.width ≤ 4096) }
-    ensures { Corrected reduction run s.old s.new }
-{
-    let mut s0 = [0u8; 4096];
-    let mut s1 = [0u8; 4096];
-    wide::syndromes(s, &mut s0, &mut s1, reduction, run);
-    correct_lines(s, &s0, &s1, reduction, run);
-}
-
-fn correct_lines(s: &mut [u8], s0: &[u8], s1: &[u8], reduction: u8, run: Run)
-    requires { (Inside run (length s.old)) × (run.width ≤ length s0.now) × (run.width ≤ length s1.now) × (Syndromes reduction run s.old s0.now s1.now) }
-    ensures { Corrected reduction run s.old s.new }
-{
-    let width = run.width;
-    let mut t = 0;
-    while t < width {
-        correct_line(s, reduction, run, t, s0[t], s1[t]);
-        t += 1;
+    let mut sums: strip::Syndromes<N> = strip::Syndromes::zeros();
+    wide::syndromes(s, &mut sums, reduction, run);
+    for t in 0..run.width {
+        correct_line(s, reduction, run, t, sums.first[t], sums.second[t]);
     }
 }
 
@@ -73,7 +53,7 @@ fn correct_line(s: &mut [u8], reduction: u8, run: Run, t: usize, v0: u8, v1: u8)
     ensures { Corrected reduction (part run t 1) s.old s.new }
 {
     let place = solver::error_place(reduction, v0, v1, run.len);
-    let Place::At(j) = place else {
+    let Some(j) = place else {
         return;
     };
     let p = run.first + run.stride * j + t;

@@ -36,27 +36,17 @@ pub struct Erasures {
 pub fn erasures_at(reduction: u8, j: u8, k: u8) -> Erasures
     ensures { result ≡ erasures_at reduction j k }
 {
-    let row = solver::second_row(reduction, j as usize, k as usize);
-    Erasures {
-        j: j as usize,
-        k: k as usize,
-        b: row[0],
-        d: row[1],
-    }
+    let j = usize::from(j);
+    let k = usize::from(k);
+    let [b, d] = solver::second_row(reduction, j, k);
+    Erasures { j, k, b, d }
 }
 
 // Fills in the erasures of every line of the run, whatever bytes stand there.
 pub fn solve(s: &mut [u8], reduction: u8, run: Run, e: Erasures) -> bool
     ensures { SolveRun reduction run e s.old s.new result }
 {
-    let n = s.len();
-    if !inside(n, run) {
-        return false;
-    }
-    if e.k < e.j {
-        return false;
-    }
-    if run.len <= e.k {
+    if !inside(s.len(), run) || e.k < e.j || run.len <= e.k {
         return false;
     }
     block::solve_blocks(s, reduction, run, e);
@@ -67,18 +57,10 @@ pub fn solve(s: &mut [u8], reduction: u8, run: Run, e: Erasures) -> bool
 pub fn encode(data: &[u8], s: &mut [u8], reduction: u8, from: Run, to: Run) -> bool
     ensures { EncodeRun reduction from to «data».now s.old s.new result }
 {
-    let n = s.len();
-    if !inside(n, to) {
+    if !inside(s.len(), to) || !inside(data.len(), from) {
         return false;
     }
-    let m = data.len();
-    if !inside(m, from) {
-        return false;
-    }
-    if from.len + 2 != to.len {
-        return false;
-    }
-    if from.width != to.width {
+    if from.len + 2 != to.len || from.width != to.width {
         return false;
     }
     let last = (to.len - 1) as u8;
@@ -91,19 +73,14 @@ pub fn encode(data: &[u8], s: &mut [u8], reduction: u8, from: Run, to: Run) -> b
 pub fn codewords(s: &[u8], reduction: u8, run: Run) -> bool
     ensures { CheckRun reduction run s.now result }
 {
-    let n = s.len();
-    if !inside(n, run) {
-        return false;
-    }
-    block::codeword_blocks(s, reduction, run)
+    inside(s.len(), run) && block::codeword_blocks(s, reduction, run)
 }
 
 // Corrects a single error in each line of the run.
 pub fn correct(s: &mut [u8], reduction: u8, run: Run) -> bool
     ensures { CorrectRun reduction run s.old s.new result }
 {
-    let n = s.len();
-    if !inside(n, run) {
+    if !inside(s.len(), run) {
         return false;
     }
     corrector::correct_blocks(s, reduction, run);
@@ -114,27 +91,10 @@ pub fn correct(s: &mut [u8], reduction: u8, run: Run) -> bool
 fn inside(n: usize, run: Run) -> bool
     ensures { Decides (Inside run n) result }
 {
-    let first = run.first;
-    let stride = run.stride;
-    let len = run.len;
-    let width = run.width;
-    if len < 1 {
-        return false;
-    }
-    if 255 < len {
-        return false;
-    }
-    if stride < width {
-        return false;
-    }
-    if n < width {
-        return false;
-    }
-    if n - width < first {
-        return false;
-    }
-    if len == 1 {
-        return true;
-    }
-    stride <= (n - width - first) / (len - 1)
+    1 <= run.len
+        && run.len <= 255
+        && run.width <= run.stride
+        && run.width <= n
+        && run.first <= n - run.width
+        && (run.len == 1 || run.stride <= (n - run.width - run.first) / (run.len - 1))
 }

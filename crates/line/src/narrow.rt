@@ -13,11 +13,11 @@ pub(crate) fn solve(s: &mut [u8], reduction: u8, read: Run, run: Run, e: Erasure
     requires { (Inside read (length s.old)) × (read.width ≡ run.width) × (Inside run (length s.old)) × (run.width < 64) × (e.j ≤ e.k) × (e.k < run.len) }
     ensures { Combining reduction read run e s.old s.new }
 {
-    let n = s.len();
-    if roomy(n, read) {
-        solve_strip(s, reduction, read, run, e);
+    if roomy(s.len(), read) {
+        let sums = strips::syndromes(s, reduction, read);
+        combine(s, sums, reduction, run, e);
     } else {
-        solve_block(s, reduction, read, run, e);
+        wide::solve::<64>(s, reduction, read, run, e);
     }
 }
 
@@ -26,11 +26,10 @@ pub(crate) fn codewords(s: &[u8], reduction: u8, run: Run) -> bool
     requires { (Inside run (length s.now)) × (run.width < 64) }
     ensures { Decides ((t : ℕ) → t < run.width → Codeword reduction (line_at s.now run t) run.len) result }
 {
-    let n = s.len();
-    if roomy(n, run) {
-        codewords_strip(s, reduction, run)
+    if roomy(s.len(), run) {
+        strips::syndromes(s, reduction, run).both_zero_below(run.width as u8)
     } else {
-        codewords_block(s, reduction, run)
+        wide::codewords::<64>(s, reduction, run)
     }
 }
 
@@ -39,60 +38,17 @@ fn roomy(n: usize, run: Run) -> bool
     requires { Inside run n }
     ensures { result ≡ true → Roomy run n }
 {
-    if run.width < 6 {
-        return false;
-    }
     let last = run.first + run.stride * (run.len - 1);
-    64 <= n - last
-}
-
-fn solve_strip(s: &mut [u8], reduction: u8, read: Run, run: Run, e: Erasures)
-    requires { Roomy read (length s.old) × (read.width ≤ 64) × (Inside run (length s.old)) × (run.width < 64) × (e.j ≤ e.k) × (e.k < run.len) }
-    ensures { Combining reduction read run e s.old s.new }
-{
-    let mut s0 = [0u8; 64];
-    let mut s1 = [0u8; 64];
-    strips::syndromes(s, &mut s0, &mut s1, reduction, read);
-    combine(s, s0, s1, reduction, run, e);
-}
-
-fn solve_block(s: &mut [u8], reduction: u8, read: Run, run: Run, e: Erasures)
-    requires { (Inside read (length s.old)) × (read.width ≡ run.width) × (Inside run (length s.old)) × (run.width < 64) × (e.j ≤ e.k) × (e.k < run.len) }
-    ensures { Combining reduction read run e s.old s.new }
-{
-    let mut s0 = [0u8; 64];
-    let mut s1 = [0u8; 64];
-    wide::syndromes(s, &mut s0, &mut s1, reduction, read);
-    wide::combine(s, &s0, &s1, reduction, run, e);
-}
-
-fn codewords_strip(s: &[u8], reduction: u8, run: Run) -> bool
-    requires { Roomy run (length s.now) × (run.width < 64) }
-    ensures { Decides ((t : ℕ) → t < run.width → Codeword reduction (line_at s.now run t) run.len) result }
-{
-    let mut s0 = [0u8; 64];
-    let mut s1 = [0u8; 64];
-    strips::syndromes(s, &mut s0, &mut s1, reduction, run);
-    strip::both_zero_below(s0, s1, run.width as u8)
-}
-
-fn codewords_block(s: &[u8], reduction: u8, run: Run) -> bool
-    requires { (Inside run (length s.now)) × (run.width < 64) }
-    ensures { Decides ((t : ℕ) → t < run.width → Codeword reduction (line_at s.now run t) run.len) result }
-{
-    let mut s0 = [0u8; 64];
-    let mut s1 = [0u8; 64];
-    wide::syndromes(s, &mut s0, &mut s1, reduction, run);
-    wide::all_zero(&s0, &s1, run.width)
+    6 <= run.width && 64 <= n - last
 }
 
 // Writes the bytes at both erasures of the run's lines, which are the first of a strip; the later one last, so that it stands where both are one.
-fn combine(s: &mut [u8], s0: [u8; 64], s1: [u8; 64], reduction: u8, run: Run, e: Erasures)
+fn combine(s: &mut [u8], sums: strip::Syndromes<64>, reduction: u8, run: Run, e: Erasures)
     requires { (Inside run (length s.old)) × (run.width ≤ 64) × (e.j ≤ e.k) × (e.k < run.len) }
-    ensures { Combined reduction run e s0 s1 s.old s.new }
+    ensures { Combined reduction run e sums.first sums.second s.old s.new }
 {
-    let y = strip::products(s0, s1, reduction, e.b, e.d);
-    let x = strip::sums(s0, y);
+    let y = sums.products(reduction, e.b, e.d);
+    let x = strip::sums(sums.first, y);
     span::copy(&x, s, 0, run.first + run.stride * e.j, run.width);
     span::copy(&y, s, 0, run.first + run.stride * e.k, run.width);
 }

@@ -1,13 +1,15 @@
 -- Packets as they stand in a pack, and those that name a cell: what the calls answer, and what a pack that was read needs of them.
+use Rattle.std.specs.Prelude.{Option, Some, None}
 use mathlib.Core.Path.{◌≡◌, refl, sym, ap, ◌∙◌}
 use mathlib.Core.Bool.{Bool, true, false, cond, false≢true, true≢false}
 use mathlib.Core.List.{List}
-use Prim.Native.Nat.{ℕ, ◌+◌, ◌-◌, ◌*◌, ◌≤◌, ◌<◌}
-use native.Mathlib.Nat.{mul-le-mul}
+use Prim.Native.Nat.{ℕ, ◌+◌, ◌*◌, ◌≤◌, ◌<◌}
 use native.Mathlib.Omega.{arith}
 use lib.Dec.{leb, ltb}
 use lib.ListN.{length, get_or}
 use borrow.Author.Tests.{leb-true, le-leb, ltb-true, lt-ltb, not-true}
+use Rattle.answer.proofs.Tuples.{some-four}
+use Rattle.std.proofs.lemmas.Option.{some_pair_parts}
 use Rattle.answer.specs.Values.{passes}
 use Rattle.shape.specs.declared.Shape.{Shape}
 use Rattle.shape.specs.Shapes.{both, cells, cell}
@@ -16,10 +18,6 @@ use Rattle.shape.proofs.Geometry.{cell-lt-cells}
 use Rattle.span.proofs.Stretches.{stretch-end}
 use Rattle.pack.specs.declared.Section.{Section}
 use Rattle.pack.specs.declared.Header.{Header}
-use Rattle.pack.specs.declared.PacketRead.{PacketRead}
-use Rattle.pack.specs.declared.PacketRead.TheVariants.{Names, Absent}
-use Rattle.pack.specs.declared.PartsRead.{PartsRead}
-use Rattle.pack.specs.declared.PartsRead.TheVariants.{Parts, Absent as NoParts}
 use Rattle.pack.specs.Packs.{unsent, sends}
 use Rattle.pack.specs.Reading.{packet_size, air_of}
 use Rattle.pack.specs.Packets.{packet_at, packet_in, source, Stands, PartsOutcome, standing, not_standing, OnCube, InRange, Named, PacketOutcome, named, unnamed, FirstOutside}
@@ -44,30 +42,15 @@ pub limits-true : (sh : Shape) → Limits sh → within_limits sh ≡ true
 unfolding within_limits
 limits-true sh l = both_true _ _ (le-leb _ _ l.l1_high) (both_true _ _ (le-leb _ _ l.l2_high) (le-leb _ _ l.w_high))
 
--- the products of the limits fit a machine word
-pub cell-small : (l2 b c : ℕ) → l2 ≤ 255 → b < 256 → c < 256 → l2 * c ≤ 65025
-cell-small l2 b c h p q = let m : c ≤ 255 = omega arith in mul-le-mul h m
-
-pub cell-fits : (l1 l2 b c : ℕ) → l1 ≤ 255 → l2 ≤ 255 → b < 256 → c < 256 → l1 * (b + l2 * c) ≤ 16646400
-cell-fits l1 l2 b c g h p q =
-    let m : b + l2 * c ≤ 65280 = omega (arith, cell-small l2 b c h p q) in
-    mul-le-mul g m
-
-pub data-small : (l2 c : ℕ) → l2 ≤ 255 → c < 256 → (l2 - 2) * c ≤ 65025
-data-small l2 c h q = cell-small (l2 - 2) 0 c (omega arith) (omega arith) q
-
-pub data-fits : (l1 l2 b c : ℕ) → l1 ≤ 255 → l2 ≤ 255 → b < l2 → c < 256 → (l1 - 2) * (b + (l2 - 2) * c) ≤ 16646400
-data-fits l1 l2 b c g h p q = cell-fits (l1 - 2) (l2 - 2) b c (omega arith) (omega arith) (omega arith) q
-
 -- ---- the parts of a packet
 
 module _ (p : List ℕ) (h : Header) (s : Section) (i : ℕ) where
-  pub parts-beyond-limits : within_limits h.shape ≡ false → PartsOutcome p h s i NoParts
+  pub parts-beyond-limits : within_limits h.shape ≡ false → PartsOutcome p h s i None
   parts-beyond-limits t =
       not_standing (λ (n : Stands p h s i).
       false≢true (sym t ∙ limits-true h.shape (record { l1_high = n.l1_high; l2_high = n.l2_high; w_high = n.w_high })))
 
-  pub parts-beyond-pack : length p < s.at + i * (3 + h.shape.w) + (3 + h.shape.w) → PartsOutcome p h s i NoParts
+  pub parts-beyond-pack : length p < s.at + i * (3 + h.shape.w) + (3 + h.shape.w) → PartsOutcome p h s i None
   unfolding packet_at packet_size
   parts-beyond-pack l =
       not_standing (λ (n : Stands p h s i).
@@ -75,26 +58,22 @@ module _ (p : List ℕ) (h : Header) (s : Section) (i : ℕ) where
 
   pub parts-stand : within_limits h.shape ≡ true → s.at + i * (3 + h.shape.w) + (3 + h.shape.w) ≤ length p
       → PartsOutcome p h s i
-      (Parts (get_or p (s.at + i * (3 + h.shape.w)) 0) (get_or p (s.at + i * (3 + h.shape.w) + 1) 0) (get_or p (s.at + i * (3 + h.shape.w) + 2) 0)
-      (s.at + i * (3 + h.shape.w) + 3))
+      (Some (
+        get_or p (s.at + i * (3 + h.shape.w)) 0,
+        get_or p (s.at + i * (3 + h.shape.w) + 1) 0,
+        get_or p (s.at + i * (3 + h.shape.w) + 2) 0,
+        s.at + i * (3 + h.shape.w) + 3,
+      ))
   unfolding packet_at packet_size packet_in
   parts-stand t inside =
       let l = limits-parts h.shape t in
       standing (record { l1_high = l.l1_high; l2_high = l.l2_high; w_high = l.w_high; inside = inside })
 
   -- a packet that stands in its pack is answered by its parts
-  pub parts-told : (r : PartsRead) → PartsOutcome p h s i r → Stands p h s i
-      → r ≡ Parts (packet_in p h s i).a (packet_in p h s i).b (packet_in p h s i).c (packet_at h s i + 3)
+  pub parts-told : (r : Option (ℕ × ℕ × ℕ × ℕ)) → PartsOutcome p h s i r → Stands p h s i
+      → r ≡ Some ((packet_in p h s i).a, (packet_in p h s i).b, (packet_in p h s i).c, packet_at h s i + 3)
   parts-told r (standing n) m = refl
   parts-told r (not_standing never) m = absurd (never m)
-
-  pub parts-standing : (a b c at : ℕ) (r : PartsRead) → PartsOutcome p h s i r → r ≡ Parts a b c at → Stands p h s i
-  parts-standing a b c at r (standing n) e = n
-  parts-standing a b c at r (not_standing never) e = let z : ◌≡◌ {A = ℕ} 0 1 = cc in absurd (omega arith)
-
-pub parts-gone : (p : List ℕ) (h : Header) (s : Section) (i : ℕ) (r : PartsRead) → PartsOutcome p h s i r → r ≡ NoParts → Stands p h s i → ⊥
-parts-gone p h s i r (standing n) e m = let z : ◌≡◌ {A = ℕ} 0 1 = cc in omega arith
-parts-gone p h s i r (not_standing never) e m = never m
 
 -- ---- the cell of a packet
 
@@ -106,12 +85,12 @@ coordinates p h s i =
 
 module _ (p : List ℕ) (h : Header) (s : Section) (i : ℕ) where
   -- what does not stand in the pack names no cell
-  pub parts-absent : (r : PartsRead) → PartsOutcome p h s i r → r ≡ NoParts → PacketOutcome p h s i Absent
+  pub parts-absent : (r : Option (ℕ × ℕ × ℕ × ℕ)) → PartsOutcome p h s i r → r ≡ None → PacketOutcome p h s i None
   parts-absent r (standing n) e = let z : ◌≡◌ {A = ℕ} 0 1 = cc in absurd (omega arith)
   parts-absent r (not_standing never) e = unnamed (λ (n : OnCube p h s i). never n.stands)
 
   tested : Stands p h s i → (t : Bool) → coordinates p h s i ≡ t
-      → PacketOutcome p h s i (cond t (Names ((source p h s).place i) (packet_at h s i + 3)) Absent)
+      → PacketOutcome p h s i (cond t (Some ((source p h s).place i, packet_at h s i + 3)) None)
   unfolding coordinates
   tested n true e =
       let (a, bc) = both-parts (ltb (get_or p (packet_at h s i) 0) h.shape.l1) _ e in
@@ -122,15 +101,12 @@ module _ (p : List ℕ) (h : Header) (s : Section) (i : ℕ) where
       false≢true (sym e ∙ both_true _ _ (lt-ltb _ _ m.first) (both_true _ _ (lt-ltb _ _ m.second) (lt-ltb _ _ m.third))))
 
   -- the parts of a packet name its cell, where they are below their lengths
-  pub parts-named : (a b c at : ℕ) (q : PartsRead) (r : PacketRead) → PartsOutcome p h s i q → q ≡ Parts a b c at
+  pub parts-named : (a b c at : ℕ) (q : Option (ℕ × ℕ × ℕ × ℕ)) (r : Option (ℕ × ℕ)) → PartsOutcome p h s i q → q ≡ Some (a, b, c, at)
       → r ≡ named_by h.shape a b c at → PacketOutcome p h s i r
   unfolding named_by packet_in source coordinates
   parts-named a b c at q r (standing n) e f =
-      let first : a ≡ get_or p (packet_at h s i) 0 = cc in
-      let second : b ≡ get_or p (packet_at h s i + 1) 0 = cc in
-      let third : c ≡ get_or p (packet_at h s i + 2) 0 = cc in
-      let behind : at ≡ packet_at h s i + 3 = cc in
-      rw (f, first, second, third, behind) (tested n (coordinates p h s i) refl)
+      let (first, second, third, behind) = some-four _ a _ b _ c _ at e in
+      rw (f, ← first, ← second, ← third, ← behind) (tested n (coordinates p h s i) refl)
   parts-named a b c at q r (not_standing never) e f = let z : ◌≡◌ {A = ℕ} 0 1 = cc in absurd (omega arith)
 
   -- a packet on the cube passes check 11 where its cell is sent
@@ -142,45 +118,45 @@ module _ (p : List ℕ) (h : Header) (s : Section) (i : ℕ) where
   cube-sent n e = record { stands = n.stands; range = record { first = n.first; second = n.second; third = n.third; sent = rw e } }
 
   -- the parts of a packet on the cube: whether its cell is sent
-  pub parts-unsent : (a b c at : ℕ) (q : PartsRead) (r : Bool) → PartsOutcome p h s i q → q ≡ Parts a b c at
+  pub parts-unsent : (a b c at : ℕ) (q : Option (ℕ × ℕ × ℕ × ℕ)) (r : Bool) → PartsOutcome p h s i q → q ≡ Some (a, b, c, at)
       → r ≡ unsent h (cell h.shape a b c) → r ≡ unsent h ((source p h s).place i)
   unfolding packet_in source
   parts-unsent a b c at q r (standing n) e f =
-      let first : a ≡ get_or p (packet_at h s i) 0 = cc in
-      let second : b ≡ get_or p (packet_at h s i + 1) 0 = cc in
-      let third : c ≡ get_or p (packet_at h s i + 2) 0 = cc in
-      rw (first, second, third) at f
+      let (first, second, third, _) = some-four _ a _ b _ c _ at e in
+      rw (← first, ← second, ← third) at f
   parts-unsent a b c at q r (not_standing never) e f = let z : ◌≡◌ {A = ℕ} 0 1 = cc in absurd (omega arith)
 
-  pub parts-range : (a b c at : ℕ) (q : PartsRead) → PartsOutcome p h s i q → q ≡ Parts a b c at → OnCube p h s i
+  -- and they are bytes
+  pub parts-small : ((k : ℕ) → get_or p k 0 < 256) → (a b c at : ℕ) (q : Option (ℕ × ℕ × ℕ × ℕ)) → PartsOutcome p h s i q
+      → q ≡ Some (a, b, c, at) → (a < 256) × (b < 256) × (c < 256)
+  unfolding packet_in
+  parts-small small a b c at q (standing n) e =
+      let (first, second, third, _) = some-four _ a _ b _ c _ at e in
+      rw (← first, ← second, ← third) (small _, small _, small _)
+  parts-small small a b c at q (not_standing never) e = let z : ◌≡◌ {A = ℕ} 0 1 = cc in absurd (omega arith)
+
+  pub parts-range : (a b c at : ℕ) (q : Option (ℕ × ℕ × ℕ × ℕ)) → PartsOutcome p h s i q → q ≡ Some (a, b, c, at) → OnCube p h s i
       → (a < h.shape.l1) × (b < h.shape.l2) × (c < h.shape.l3)
   unfolding packet_in
   parts-range a b c at q (standing n) e m =
-      let first : a ≡ get_or p (packet_at h s i) 0 = cc in
-      let second : b ≡ get_or p (packet_at h s i + 1) 0 = cc in
-      let third : c ≡ get_or p (packet_at h s i + 2) 0 = cc in
-      rw (first, second, third) (m.first, m.second, m.third)
+      let (first, second, third, _) = some-four _ a _ b _ c _ at e in
+      rw (← first, ← second, ← third) (m.first, m.second, m.third)
   parts-range a b c at q (not_standing never) e m = absurd (never m.stands)
 
 -- ---- for callers
 
 -- a packet that stands in its pack and names a cell is answered so
-pub packet-named : (p : List ℕ) (h : Header) (s : Section) (i : ℕ) (r : PacketRead) → PacketOutcome p h s i r → Named p h s i
-    → r ≡ Names ((source p h s).place i) (packet_at h s i + 3)
+pub packet-named : (p : List ℕ) (h : Header) (s : Section) (i : ℕ) (r : Option (ℕ × ℕ)) → PacketOutcome p h s i r → Named p h s i
+    → r ≡ Some ((source p h s).place i, packet_at h s i + 3)
 packet-named p h s i r (named n) m = refl
 packet-named p h s i r (unnamed never) m = absurd (never (on-cube p h s i m))
 
-pub packet-names : (p : List ℕ) (h : Header) (s : Section) (i n from : ℕ) (r : PacketRead) → PacketOutcome p h s i r → r ≡ Names n from
-    → OnCube p h s i
-packet-names p h s i n from r (named m) e = m
-packet-names p h s i n from r (unnamed never) e = let z : ◌≡◌ {A = ℕ} 0 1 = cc in absurd (omega arith)
-
-pub packet-off : (p : List ℕ) (h : Header) (s : Section) (i : ℕ) (r : PacketRead) → PacketOutcome p h s i r → r ≡ Absent
+pub packet-off : (p : List ℕ) (h : Header) (s : Section) (i : ℕ) (r : Option (ℕ × ℕ)) → PacketOutcome p h s i r → r ≡ None
     → OnCube p h s i → ⊥
 packet-off p h s i r (named m) e = let z : ◌≡◌ {A = ℕ} 0 1 = cc in absurd (omega arith)
 packet-off p h s i r (unnamed never) e = never
 
-pub packet-absent : (p : List ℕ) (h : Header) (s : Section) (i : ℕ) (r : PacketRead) → PacketOutcome p h s i r → r ≡ Absent
+pub packet-absent : (p : List ℕ) (h : Header) (s : Section) (i : ℕ) (r : Option (ℕ × ℕ)) → PacketOutcome p h s i r → r ≡ None
     → Named p h s i → ⊥
 packet-absent p h s i r o e n = packet-off p h s i r o e (on-cube p h s i n)
 
@@ -212,12 +188,12 @@ pub record Told (p : List ℕ) (h : Header) (s : Section) (i n from : ℕ) : Typ
   pub byte : (w : ℕ) → get_or p (from + w) 0 ≡ (source p h s).byte i w
   pub inside : from + h.shape.w ≤ length p
 
-pub packet-told : (p : List ℕ) (h : Header) (s : Section) (i n from : ℕ) (r : PacketRead) → PacketOutcome p h s i r → r ≡ Names n from
+pub packet-told : (p : List ℕ) (h : Header) (s : Section) (i n from : ℕ) (r : Option (ℕ × ℕ)) → PacketOutcome p h s i r → r ≡ Some (n, from)
     → Told p h s i n from
 unfolding source packet_size
 packet-told p h s i n from r (named m) e =
-    let begins : packet_at h s i + 3 ≡ from = cc in
-    record { cell = cc; byte = λ w. ap (λ (k : ℕ). get_or p (k + w) 0) (sym begins); inside = omega (arith, m.stands.inside) }
+    let (same, begins) = some_pair_parts _ n _ from e in
+    record { cell = sym same; byte = λ w. ap (λ (k : ℕ). get_or p (k + w) 0) (sym begins); inside = omega (arith, m.stands.inside) }
 packet-told p h s i n from r (unnamed never) e = let z : ◌≡◌ {A = ℕ} 0 1 = cc in absurd (omega arith)
 
 -- the cell that it names is sent

@@ -1,4 +1,5 @@
 -- What a pack that was read says of its header and its section, and what a caller of a reader learns from its answer.
+use Rattle.std.specs.Prelude.{Result, Err}
 use mathlib.Core.Path.{◌≡◌, refl, sym, ap}
 use mathlib.Core.Bool.{true}
 use mathlib.Core.Logic.{◌⊎◌, inl, inr, ⊎_elim}
@@ -10,8 +11,8 @@ use native.Mathlib.Omega.{arith}
 use lib.ListN.{length, get_or}
 use borrow.Author.Tests.{leb-true, eqb-true, ne_eqb}
 use Rattle.answer.specs.declared.Refusal.{Refusal}
-use Rattle.answer.specs.Values.{Checked, passes, check, and_then, checked, refusal}
-use Rattle.answer.proofs.Values.{refusal-gives, passes-injective, check-passed, checked-passes, then-passed}
+use Rattle.answer.specs.Values.{Checked, passes, check, and_then, checked, value_of}
+use Rattle.answer.proofs.Values.{refusal-gives, passes-injective, check-passed, then-passed}
 use Rattle.shape.specs.declared.Shape.{Shape}
 use Rattle.shape.specs.declared.Sizes.{Sizes}
 use Rattle.shape.specs.Shapes.{Valid, cells, capacity, data_cells, sizes, shape_checked}
@@ -20,18 +21,10 @@ use Rattle.stopping.specs.Stopping.{number}
 use Rattle.cursor.specs.declared.Cursor.{Cursor}
 use Rattle.pack.specs.declared.Section.{Section}
 use Rattle.pack.specs.declared.Header.{Header}
-use Rattle.pack.specs.declared.HeaderRead.{HeaderRead}
-use Rattle.pack.specs.declared.HeaderRead.TheVariants.{Headed, Refused as NoHeader}
-use Rattle.pack.specs.declared.SentRead.{SentRead}
-use Rattle.pack.specs.declared.SentRead.TheVariants.{Sent, Refused as NotSent}
-use Rattle.pack.specs.declared.JobRead.{JobRead}
-use Rattle.pack.specs.declared.JobRead.TheVariants.{Job, Refused as NoJob}
-use Rattle.pack.specs.declared.AirRead.{AirRead}
-use Rattle.pack.specs.declared.AirRead.TheVariants.{Air, Refused as NoAir}
 use Rattle.cursor.specs.Steps.{word}
 use Rattle.cursor.specs.Steps.{count, bytes}
 use Rattle.pack.specs.Packs.{sends}
-use Rattle.pack.specs.Reading.{end, used_by, header_with, header_for, headed, is_count, header_of, header_value, sent_checked, sent_value, packet_size, job_behind, job_of, job_value, air_behind, air_of, plain_air_of, air_value}
+use Rattle.pack.specs.Reading.{end, used_by, header_with, header_for, headed, is_count, header_of, sent_checked, packet_size, job_behind, job_of, air_behind, air_of, plain_air_of}
 use Rattle.cursor.proofs.Steps.{word_lt}
 
 -- ---- a step that passed
@@ -147,18 +140,8 @@ sent-passes h sent =
     rw (counted, valid-passes h.shape sent.valid, within-true 1 (data_cells h.shape) h.used sent.some sent.most)
 
 -- what a caller learns from `sent_cells`
-module _ (h : Header) (r : SentRead) (e : sent_value r ≡ checked (sent_checked h)) where
-  pub sent-told : (n : ℕ) → r ≡ Sent n → sent_checked h ≡ passes n
-  unfolding sent_value
-  sent-told n q = checked-passes (sent_checked h) n (rw q at e)
-
-  pub sent-refused : (f : Refusal) → r ≡ NotSent f → refusal {A = ℕ} f ≡ checked (sent_checked h)
-  unfolding sent_value
-  sent-refused f q = rw q at e
-
--- a header that section 1 can have is not refused
-pub sent-not : (h : Header) → HeaderSent h → (r : SentRead) → sent_value r ≡ checked (sent_checked h) → (f : Refusal) → r ≡ NotSent f → ⊥
-unfolding sent_value checked
+pub sent-not : (h : Header) → HeaderSent h → (r : Result ℕ Refusal) → value_of r ≡ checked (sent_checked h) → (f : Refusal) → r ≡ Err f → ⊥
+unfolding value_of checked
 sent-not h sent r e f q = refusal-gives f _ (rw (q, sent-passes h sent) at e)
 
 -- document 01's own header, and one with U
@@ -213,36 +196,6 @@ used-bytes-le u w p q = mul-le-mul p q
 pub header-limits : (h : Header) → HeaderSound h → (h.used ≤ 16777216) × (h.shape.w ≤ 1024)
 header-limits h sound =
     (omega (arith, sound.most, data-cells-le h.shape, cells_le h.shape sound.valid), sound.valid.w_high)
-
--- ---- the readers' answers
-
-module _ (p : List ℕ) (r : HeaderRead) (e : header_value r ≡ checked (header_of p)) where
-  pub header-told : (h : Header) (c : Cursor) → r ≡ Headed h c → header_of p ≡ passes (h, c)
-  unfolding header_value
-  header-told h c q = checked-passes (header_of p) (h, c) (rw q at e)
-
-  pub header_refused : (f : Refusal) → r ≡ NoHeader f → refusal {A = Header × Cursor} f ≡ checked (header_of p)
-  unfolding header_value
-  header_refused f q = rw q at e
-
-module _ (p : List ℕ) (r : JobRead) (e : job_value r ≡ checked (job_of p)) where
-  pub job-told : (h : Header) (s : Section) → r ≡ Job h s → job_of p ≡ passes (h, s)
-  unfolding job_value
-  job-told h s q = checked-passes (job_of p) (h, s) (rw q at e)
-
-  pub job-refused : (f : Refusal) → r ≡ NoJob f → refusal {A = Header × Section} f ≡ checked (job_of p)
-  unfolding job_value
-  job-refused f q = rw q at e
-
--- the receiver's reading of a pack, or the text twin's
-module _ (k : Checked (Header × Section)) (r : AirRead) (e : air_value r ≡ checked k) where
-  pub air-told : (h : Header) (s : Section) → r ≡ Air h s → k ≡ passes (h, s)
-  unfolding air_value
-  air-told h s q = checked-passes k (h, s) (rw q at e)
-
-  pub air-refused : (f : Refusal) → r ≡ NoAir f → refusal {A = Header × Section} f ≡ checked k
-  unfolding air_value
-  air-refused f q = rw q at e
 
 -- the text twin's pack is an air pack of count 5
 module _ (p : List ℕ) (h : Header) (s : Section) (e : plain_air_of p ≡ passes (h, s)) where

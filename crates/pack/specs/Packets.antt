@@ -1,13 +1,9 @@
 -- The packets of a pack as a sequence: for each index the cell it names and its bytes (document 01, "Packs").
-use Rattle.std.specs.Prelude.{◌≡◌, true, List, [], map, ℕ, ◌+◌, ◌*◌, ◌≤◌, ◌<◌, length, get_or, take, drop}
+use Rattle.std.specs.Prelude.{◌≡◌, true, List, [], map, ℕ, ◌+◌, ◌*◌, ◌≤◌, ◌<◌, length, get_or, take, drop, Option, Some, None}
 use Rattle.shape.specs.declared.Shape.{Shape}
 use Rattle.shape.specs.Shapes.{cell}
 use Rattle.pack.specs.declared.Section.{Section}
 use Rattle.pack.specs.declared.Header.{Header}
-use Rattle.pack.specs.declared.PacketRead.{PacketRead}
-use Rattle.pack.specs.declared.PacketRead.TheVariants.{Names, Absent}
-use Rattle.pack.specs.declared.PartsRead.{PartsRead}
-use Rattle.pack.specs.declared.PartsRead.TheVariants.{Parts, Absent as NoParts}
 use Rattle.pack.specs.Packs.{Packet, up_from, sends}
 use Rattle.pack.specs.Reading.{packet_size}
 
@@ -64,11 +60,11 @@ pub record Stands (p : List ℕ) (h : Header) (s : Section) (i : ℕ) : Type 0 w
   pub inside : packet_at h s i + packet_size h ≤ length p
 
 -- What `packet_parts` answers: a, b, c and where the cell's bytes begin, or that no packet stands there.
-pub data PartsOutcome (p : List ℕ) (h : Header) (s : Section) (i : ℕ) : PartsRead → Type 0 where
+pub data PartsOutcome (p : List ℕ) (h : Header) (s : Section) (i : ℕ) : Option (ℕ × ℕ × ℕ × ℕ) → Type 0 where
   standing :
       Stands p h s i →
-      PartsOutcome p h s i (Parts (packet_in p h s i).a (packet_in p h s i).b (packet_in p h s i).c (packet_at h s i + 3))
-  not_standing : (Stands p h s i → ⊥) → PartsOutcome p h s i NoParts
+      PartsOutcome p h s i (Some ((packet_in p h s i).a, (packet_in p h s i).b, (packet_in p h s i).c, packet_at h s i + 3))
+  not_standing : (Stands p h s i → ⊥) → PartsOutcome p h s i None
 
 -- Packet i stands in the pack and names a cell of the cube.
 pub record OnCube (p : List ℕ) (h : Header) (s : Section) (i : ℕ) : Type 0 where
@@ -78,9 +74,9 @@ pub record OnCube (p : List ℕ) (h : Header) (s : Section) (i : ℕ) : Type 0 w
   pub third : get_or p (packet_at h s i + 2) 0 < h.shape.l3
 
 -- What `packet` answers: the cell and where its bytes begin, or that no packet stands there or names a cell.
-pub data PacketOutcome (p : List ℕ) (h : Header) (s : Section) (i : ℕ) : PacketRead → Type 0 where
-  named : OnCube p h s i → PacketOutcome p h s i (Names ((source p h s).place i) (packet_at h s i + 3))
-  unnamed : (OnCube p h s i → ⊥) → PacketOutcome p h s i Absent
+pub data PacketOutcome (p : List ℕ) (h : Header) (s : Section) (i : ℕ) : Option (ℕ × ℕ) → Type 0 where
+  named : OnCube p h s i → PacketOutcome p h s i (Some ((source p h s).place i, packet_at h s i + 3))
+  unnamed : (OnCube p h s i → ⊥) → PacketOutcome p h s i None
 
 -- 11: "a, b or c not below its length" does not hold of packet i. Request P5: "A packet for an unsent cell meets 11."
 pub record InRange (p : List ℕ) (h : Header) (s : Section) (i : ℕ) : Type 0 where

@@ -1,7 +1,7 @@
 -- Reading a pack (document 01, "Where each refusal is checked"): "Sections are read one after another, each from the byte where the one
 -- before ended", and the checks run down the table.
 use Rattle.std.specs.Prelude.{Bool, true, cond, List, ℕ, ◌+◌, ◌*◌, eqb, leb, length, get_or, take, drop}
-use Rattle.answer.specs.Values.{Value, gives, Checked, passes, check, and_then, refusal}
+use Rattle.answer.specs.Values.{Checked, passes, check, and_then}
 use Rattle.shape.specs.declared.Shape.{Shape}
 use Rattle.shape.specs.Shapes.{within, data_cells, sizes, shape_checked}
 use Rattle.stopping.specs.Stopping.{number}
@@ -9,14 +9,6 @@ use Rattle.cursor.specs.declared.Cursor.{Cursor}
 use Rattle.cursor.specs.Steps.{word, count, bytes}
 use Rattle.pack.specs.declared.Section.{Section}
 use Rattle.pack.specs.declared.Header.{Header}
-use Rattle.pack.specs.declared.HeaderRead.{HeaderRead}
-use Rattle.pack.specs.declared.HeaderRead.TheVariants.{Headed, Refused as NoHeader}
-use Rattle.pack.specs.declared.SentRead.{SentRead}
-use Rattle.pack.specs.declared.SentRead.TheVariants.{Sent, Refused as NotSent}
-use Rattle.pack.specs.declared.JobRead.{JobRead}
-use Rattle.pack.specs.declared.JobRead.TheVariants.{Job, Refused as NoJob}
-use Rattle.pack.specs.declared.AirRead.{AirRead}
-use Rattle.pack.specs.declared.AirRead.TheVariants.{Air, Refused as NoAir}
 use Rattle.pack.specs.Packs.{sends}
 
 -- "bytes after section 3"
@@ -121,21 +113,3 @@ plain_air_of p = count p (record { at = 0 }) (λ n body. check (eqb n 5) 7 (air_
 -- the file in a job pack: the bytes that section 2 counts
 unfoldable pub file_of : List ℕ → Section → List ℕ
 file_of p s = take s.count (drop s.at p)
-
--- ---- what the calls answer
-
-unfoldable pub header_value : HeaderRead → Value (Header × Cursor)
-header_value (Headed h next) = gives (h, next)
-header_value (NoHeader f) = refusal f
-
-unfoldable pub sent_value : SentRead → Value ℕ
-sent_value (Sent n) = gives n
-sent_value (NotSent f) = refusal f
-
-unfoldable pub job_value : JobRead → Value (Header × Section)
-job_value (Job h s) = gives (h, s)
-job_value (NoJob f) = refusal f
-
-unfoldable pub air_value : AirRead → Value (Header × Section)
-air_value (Air h s) = gives (h, s)
-air_value (NoAir f) = refusal f

@@ -1,96 +1,74 @@
 // Reading a pack: for everybody section 1, for the writer a file, for the receiver packets. Checks in the order of document 01's table.
 ghost use Rattle.std.specs.Prelude.{◌≡◌, ◌+◌, ◌≤◌, length};
-ghost use Rattle.answer.specs.Values.{checked};
+ghost use Rattle.answer.specs.Values.{value_of, checked};
 ghost use Rattle.shape.specs.Shapes.{Valid, within, data_cells};
-ghost use Rattle.pack.specs.Reading.{shape_at, given_at, used_by, headed, is_count, header_of, header_value, sent_checked, sent_value, job_behind, job_of, job_value, air_behind, air_of, plain_air_of, air_value};
+ghost use Rattle.pack.specs.Reading.{shape_at, given_at, used_by, headed, is_count, header_of, sent_checked, job_behind, job_of, air_behind, air_of, plain_air_of};
 
-use crate::{AirRead, Header, HeaderRead, JobRead, Section, SentRead};
+use crate::{Header, Section};
 use answer::{Fault, Refusal};
-use cursor::{BytesRead, CountRead, Cursor, wide};
-use shape::{Measured, Shape};
+use cursor::Cursor;
+use shape::Shape;
 
 // Section 1 and the shape it holds.
-pub fn read_header(pack: &[u8]) -> HeaderRead
-    ensures { header_value result ≡ checked (header_of pack.now) }
+pub fn read_header(pack: &[u8]) -> Result<(Header, Cursor), Refusal>
+    ensures { value_of result ≡ checked (header_of pack.now) }
 {
-    let start = Cursor { at: 0 };
-    let counted = start.count(pack);
-    let CountRead::Count(n, body) = counted else {
-        return HeaderRead::Refused(Refusal::Plain(Fault::Truncated));
-    };
+    let (n, body) = Cursor { at: 0 }.count(pack)?;
     if !is_count(n) {
-        return HeaderRead::Refused(Refusal::Plain(Fault::HeaderCount));
+        return Err(Refusal::Plain(Fault::HeaderCount));
     }
-    let section = body.bytes(pack, n);
-    let BytesRead::Bytes(at, next) = section else {
-        return HeaderRead::Refused(Refusal::Plain(Fault::Truncated));
-    };
+    let (at, next) = body.bytes(pack, n)?;
     headed(shape_at(pack, at), n, given_at(pack, at, n), next)
 }
 
 // The whole pack as the writer reads it.
-pub fn read_job(pack: &[u8]) -> JobRead
-    ensures { job_value result ≡ checked (job_of pack.now) }
+pub fn read_job(pack: &[u8]) -> Result<(Header, Section), Refusal>
+    ensures { value_of result ≡ checked (job_of pack.now) }
 {
-    match read_header(pack) {
-        HeaderRead::Refused(f) => JobRead::Refused(f),
-        HeaderRead::Headed(h, next) => job_behind(pack, h, next),
-    }
+    let (h, next) = read_header(pack)?;
+    job_behind(pack, h, next)
 }
 
 // The whole pack as the receiver reads it.
-pub fn read_air(pack: &[u8]) -> AirRead
-    ensures { air_value result ≡ checked (air_of pack.now) }
+pub fn read_air(pack: &[u8]) -> Result<(Header, Section), Refusal>
+    ensures { value_of result ≡ checked (air_of pack.now) }
 {
-    match read_header(pack) {
-        HeaderRead::Refused(f) => AirRead::Refused(f),
-        HeaderRead::Headed(h, next) => air_behind(pack, h, next),
-    }
+    let (h, next) = read_header(pack)?;
+    air_behind(pack, h, next)
 }
 
 // The whole pack as the text twin reads it: section 1 has count 5.
-pub fn read_plain_air(pack: &[u8]) -> AirRead
-    ensures { air_value result ≡ checked (plain_air_of pack.now) }
+pub fn read_plain_air(pack: &[u8]) -> Result<(Header, Section), Refusal>
+    ensures { value_of result ≡ checked (plain_air_of pack.now) }
 {
-    let start = Cursor { at: 0 };
-    let counted = start.count(pack);
-    let CountRead::Count(n, _) = counted else {
-        return AirRead::Refused(Refusal::Plain(Fault::Truncated));
-    };
+    let (n, _) = Cursor { at: 0 }.count(pack)?;
     if n != 5 {
-        return AirRead::Refused(Refusal::Plain(Fault::HeaderCount));
+        return Err(Refusal::Plain(Fault::HeaderCount));
     }
     read_air(pack)
 }
 
 // How many cells are sent with a header that section 1 can have.
-pub fn sent_cells(h: Header) -> SentRead
-    ensures { sent_value result ≡ checked (sent_checked h) }
+pub fn sent_cells(h: Header) -> Result<usize, Refusal>
+    ensures { value_of result ≡ checked (sent_checked h) }
 {
     if !is_count(h.count) {
-        return SentRead::Refused(Refusal::Plain(Fault::HeaderCount));
+        return Err(Refusal::Plain(Fault::HeaderCount));
     }
-    match shape::measure(h.shape) {
-        Measured::Refused(f) => SentRead::Refused(f),
-        Measured::Fits(z) => {
-            let all = data_cells(h.shape);
-            let used = h.used;
-            if !in_use(all, used) {
-                return SentRead::Refused(Refusal::Plain(Fault::UsedCells));
-            }
-            SentRead::Sent(z.cells - (all - used))
-        }
+    let z = shape::measure(h.shape)?;
+    let all = data_cells(h.shape);
+    let used = h.used;
+    if !in_use(all, used) {
+        return Err(Refusal::Plain(Fault::UsedCells));
     }
+    Ok(z.cells - (all - used))
 }
 
 // Whether section 1 may have this count.
 fn is_count(n: usize) -> bool
     ensures { result ≡ is_count n }
 {
-    if n == 5 {
-        return true;
-    }
-    n == 9
+    n == 5 || n == 9
 }
 
 // The first five bytes of section 1.
@@ -99,10 +77,10 @@ fn shape_at(pack: &[u8], at: usize) -> Shape
     ensures { result ≡ shape_at pack.now at }
 {
     Shape {
-        l1: wide(pack[at]),
-        l2: wide(pack[at + 1]),
-        l3: wide(pack[at + 2]),
-        w: wide(pack[at + 3]) + 256 * wide(pack[at + 4]),
+        l1: usize::from(pack[at]),
+        l2: usize::from(pack[at + 1]),
+        l3: usize::from(pack[at + 2]),
+        w: usize::from(pack[at + 3]) + 256 * usize::from(pack[at + 4]),
     }
 }
 
@@ -114,40 +92,32 @@ fn given_at(pack: &[u8], at: usize, n: usize) -> usize
     if n != 9 {
         return 0;
     }
-    let last = Cursor { at: at + 5 };
-    let counted = last.count(pack);
-    let CountRead::Count(u, _) = counted else {
-        return 0;
-    };
-    u
+    match (Cursor { at: at + 5 }).count(pack) {
+        Ok((u, _)) => u,
+        Err(_) => 0,
+    }
 }
 
 // The shape's checks, room for the file's length, and the data cells in use.
-fn headed(sh: Shape, n: usize, given: usize, next: Cursor) -> HeaderRead
-    ensures { header_value result ≡ checked (headed sh n given next) }
+fn headed(sh: Shape, n: usize, given: usize, next: Cursor) -> Result<(Header, Cursor), Refusal>
+    ensures { value_of result ≡ checked (headed sh n given next) }
 {
-    match shape::measure(sh) {
-        Measured::Refused(f) => HeaderRead::Refused(f),
-        Measured::Fits(z) => {
-            if z.capacity < 4 {
-                return HeaderRead::Refused(Refusal::Plain(Fault::Capacity));
-            }
-            let all = data_cells(sh);
-            let used = used_by(all, n, given);
-            if !in_use(all, used) {
-                return HeaderRead::Refused(Refusal::Plain(Fault::UsedCells));
-            }
-            HeaderRead::Headed(
-                Header {
-                    shape: sh,
-                    sizes: z,
-                    count: n,
-                    used: used,
-                },
-                next,
-            )
-        }
+    let z = shape::measure(sh)?;
+    if z.capacity < 4 {
+        return Err(Refusal::Plain(Fault::Capacity));
     }
+    let all = data_cells(sh);
+    let used = used_by(all, n, given);
+    if !in_use(all, used) {
+        return Err(Refusal::Plain(Fault::UsedCells));
+    }
+    let header = Header {
+        shape: sh,
+        sizes: z,
+        count: n,
+        used,
+    };
+    Ok((header, next))
 }
 
 // The data cells of a valid shape.
@@ -173,68 +143,44 @@ fn in_use(all: usize, used: usize) -> bool
 }
 
 // The writer's sections 2 and 3, behind the header.
-fn job_behind(pack: &[u8], h: Header, second: Cursor) -> JobRead
+fn job_behind(pack: &[u8], h: Header, second: Cursor) -> Result<(Header, Section), Refusal>
     requires { (h.used ≤ 16777216) × (h.shape.w ≤ 1024) }
-    ensures { job_value result ≡ checked (job_behind pack.now h second) }
+    ensures { value_of result ≡ checked (job_behind pack.now h second) }
 {
-    let counted = second.count(pack);
-    let CountRead::Count(n, file) = counted else {
-        return JobRead::Refused(Refusal::Plain(Fault::Truncated));
-    };
+    let (n, file) = second.count(pack)?;
     let sizes = h.sizes;
     if sizes.capacity < 4 + n {
-        return JobRead::Refused(Refusal::Plain(Fault::Capacity));
+        return Err(Refusal::Plain(Fault::Capacity));
     }
     let sh = h.shape;
     if h.used * sh.w < 4 + n {
-        return JobRead::Refused(Refusal::Plain(Fault::UsedCells));
+        return Err(Refusal::Plain(Fault::UsedCells));
     }
-    let section = file.bytes(pack, n);
-    let BytesRead::Bytes(at, third) = section else {
-        return JobRead::Refused(Refusal::Plain(Fault::Truncated));
-    };
-    let recounted = third.count(pack);
-    let CountRead::Count(packets, rest) = recounted else {
-        return JobRead::Refused(Refusal::Plain(Fault::Truncated));
-    };
+    let (at, third) = file.bytes(pack, n)?;
+    let (packets, rest) = third.count(pack)?;
     if packets != 0 {
-        return JobRead::Refused(Refusal::Plain(Fault::SectionCount));
+        return Err(Refusal::Plain(Fault::SectionCount));
     }
     if pack.len() != rest.at {
-        return JobRead::Refused(Refusal::Plain(Fault::TrailingBytes));
+        return Err(Refusal::Plain(Fault::TrailingBytes));
     }
-    JobRead::Job(h, Section { at: at, count: n })
+    Ok((h, Section { at, count: n }))
 }
 
 // The receiver's sections 2 and 3, behind the header.
-fn air_behind(pack: &[u8], h: Header, second: Cursor) -> AirRead
+fn air_behind(pack: &[u8], h: Header, second: Cursor) -> Result<(Header, Section), Refusal>
     requires { h.shape.w ≤ 1024 }
-    ensures { air_value result ≡ checked (air_behind pack.now h second) }
+    ensures { value_of result ≡ checked (air_behind pack.now h second) }
 {
-    let counted = second.count(pack);
-    let CountRead::Count(n, third) = counted else {
-        return AirRead::Refused(Refusal::Plain(Fault::Truncated));
-    };
+    let (n, third) = second.count(pack)?;
     if n != 0 {
-        return AirRead::Refused(Refusal::Plain(Fault::SectionCount));
+        return Err(Refusal::Plain(Fault::SectionCount));
     }
-    let recounted = third.count(pack);
-    let CountRead::Count(packets, body) = recounted else {
-        return AirRead::Refused(Refusal::Plain(Fault::Truncated));
-    };
+    let (packets, body) = third.count(pack)?;
     let sh = h.shape;
-    let section = body.bytes(pack, packets * (3 + sh.w));
-    let BytesRead::Bytes(at, end) = section else {
-        return AirRead::Refused(Refusal::Plain(Fault::Truncated));
-    };
+    let (at, end) = body.bytes(pack, packets * (3 + sh.w))?;
     if pack.len() != end.at {
-        return AirRead::Refused(Refusal::Plain(Fault::TrailingBytes));
+        return Err(Refusal::Plain(Fault::TrailingBytes));
     }
-    AirRead::Air(
-        h,
-        Section {
-            at: at,
-            count: packets,
-        },
-    )
+    Ok((h, Section { at, count: packets }))
 }

@@ -2,8 +2,8 @@
 use mathlib.Core.Path.{◌≡◌, refl, sym, ap, ◌∙◌}
 use mathlib.Core.Logic.{⊎_elim}
 use mathlib.Core.List.{List, [], ◌∷◌, ◌++◌, map, append-nil}
-use Prim.Native.Nat.{ℕ, ◌+◌, ◌*◌, ◌/◌, ◌%◌, ◌≤◌, ◌<◌}
-use native.Mathlib.Nat.{mod-eq_of_lt, mod-lt, mul-le-mul}
+use Prim.Native.Nat.{ℕ, ◌+◌, ◌*◌, ◌/◌, ◌≤◌, ◌<◌}
+use native.Mathlib.Nat.{mul-le-mul}
 use native.Mathlib.Decide.{ℕ_discrete}
 use native.Mathlib.Numerals.{add-one}
 use native.Mathlib.Omega.{arith}
@@ -48,38 +48,12 @@ pub put_three : (s : List ℕ) (at a b c : ℕ) → at + 3 ≤ length s → Put 
 put_three s at a b c h =
     put-more (at + 2) c (put-more (at + 1) b (put_one s at a (omega arith)) refl (omega arith)) refl (omega arith)
 
-put_four : (s : List ℕ) (at a b c d : ℕ) → at + 4 ≤ length s
-    → Put s at (a ∷ b ∷ c ∷ d ∷ []) (set (set (set (set s at a) (at + 1) b) (at + 2) c) (at + 3) d)
-put_four s at a b c d h = put-more (at + 3) d (put_three s at a b c (omega arith)) refl (omega arith)
-
-put_five : (s : List ℕ) (at a b c d e : ℕ) → at + 5 ≤ length s
-    → Put s at (a ∷ b ∷ c ∷ d ∷ e ∷ []) (set (set (set (set (set s at a) (at + 1) b) (at + 2) c) (at + 3) d) (at + 4) e)
-put_five s at a b c d e h = put-more (at + 4) e (put_four s at a b c d (omega arith)) refl (omega arith)
-
--- the lengths fit a byte each, and W fits two
-pub shape-put : (s : List ℕ) (sh : Shape) (at : ℕ) → Valid sh → at + 5 ≤ length s
-    → Put s at (shape_bytes sh)
-    (set (set (set (set (set s at (sh.l1 % 256)) (at + 1) (sh.l2 % 256)) (at + 2) (sh.l3 % 256)) (at + 3) (sh.w % 256)) (at + 4) (sh.w / 256 % 256))
-unfolding shape_bytes
-shape-put s sh at v h =
-    let a : sh.l1 % 256 ≡ sh.l1 = mod-eq_of_lt (omega (arith, v.l1_high)) in
-    let b : sh.l2 % 256 ≡ sh.l2 = mod-eq_of_lt (omega (arith, v.l2_high)) in
-    let c : sh.l3 % 256 ≡ sh.l3 = mod-eq_of_lt (omega (arith, v.l3_high)) in
-    let e : sh.w / 256 % 256 ≡ sh.w / 256 = mod-eq_of_lt (omega (arith, v.w_high)) in
-    rw (a, b, c, e) (put_five s at sh.l1 sh.l2 sh.l3 (sh.w % 256) (sh.w / 256) h)
-
--- a packet's coordinates fit a byte each
-module _ (sh : Shape) (n a b c : ℕ) (v : Valid sh) (h : n < cells sh) (is : IsCell sh n a b c) where
-  pub coordinates-fit : a % 256 ∷ b % 256 ∷ c % 256 ∷ [] ≡ n % sh.l1 ∷ n / sh.l1 % sh.l2 ∷ n / (sh.l1 * sh.l2) ∷ []
-  coordinates-fit =
-      let low : 9 ≤ sh.l1 * sh.l2 = mul-le-mul v.l1_low v.l2_low in
-      let p : n % sh.l1 < sh.l1 = mod-lt n (omega (arith, v.l1_low)) in
-      let q : n / sh.l1 % sh.l2 < sh.l2 = mod-lt (n / sh.l1) (omega (arith, v.l2_low)) in
-      let r : n / (sh.l1 * sh.l2) < sh.l3 = third-lt sh n (omega arith) h in
-      let x : a % 256 ≡ a = mod-eq_of_lt (omega (arith, v.l1_high, is.first)) in
-      let y : b % 256 ≡ b = mod-eq_of_lt (omega (arith, v.l2_high, is.second)) in
-      let z : c % 256 ≡ c = mod-eq_of_lt (omega (arith, v.l3_high, is.third)) in
-      rw (x, y, z, is.first, is.second, is.third)
+-- a packet's third coordinate fits a byte
+pub third-fits : (sh : Shape) (n a b c : ℕ) → Valid sh → n < cells sh → IsCell sh n a b c → c < 256
+third-fits sh n a b c v h is =
+    let low : 9 ≤ sh.l1 * sh.l2 = mul-le-mul v.l1_low v.l2_low in
+    let r : n / (sh.l1 * sh.l2) < sh.l3 = third-lt sh n (omega arith) h in
+    omega (arith, v.l3_high, is.third)
 
 -- coordinates that were written, where there was room for them
 pub coordinates-told : {s after : List ℕ} {c next : Cursor} {x y z : ℕ} → CoordinatesOutcome s c x y z after next → c.at + 3 ≤ length s
@@ -90,11 +64,11 @@ coordinates-told (coordinates_outside short same kept) h = absurd (omega arith)
 -- ---- packets
 
 -- a packet: its coordinates, then its cell
-pub packet-laid : {s mid after : List ℕ} {at d e : Cursor} (xs : List ℕ) (sh : Shape) (n a b c : ℕ) → Valid sh → n < cells sh → IsCell sh n a b c
-    → Laid s at (a % 256 ∷ b % 256 ∷ c % 256 ∷ []) mid d → Laid mid d (take sh.w (drop (n * sh.w) xs)) after e
+pub packet-laid : {s mid after : List ℕ} {at d e : Cursor} (xs : List ℕ) (sh : Shape) (n a b c : ℕ) → IsCell sh n a b c
+    → Laid s at (a ∷ b ∷ c ∷ []) mid d → Laid mid d (take sh.w (drop (n * sh.w) xs)) after e
     → Laid s at (packet_bytes (packet_of sh xs n)) after e
 unfolding packet_bytes packet_of
-packet-laid xs sh n a b c v h is first second = laid-laid (rw (coordinates-fit sh n a b c v h is) at first) second
+packet-laid xs sh n a b c is first second = laid-laid (rw (is.first, is.second, is.third) at first) second
 
 -- no packets
 pub packets-none : (s : List ℕ) (c : Cursor) → Laid s c (packets []) s c

@@ -1,4 +1,5 @@
 -- The checks of the writing calls, and what a caller learns from their outcomes.
+use Rattle.std.specs.Prelude.{Result, Ok, Err}
 use mathlib.Core.Path.{◌≡◌, refl, sym, ap, ◌∙◌}
 use mathlib.Core.Logic.{⊎_elim}
 use mathlib.Core.List.{List}
@@ -8,10 +9,8 @@ use lib.Dec.{eqb}
 use lib.ListN.{length}
 use borrow.Author.Tests.{eqb-true, eq-eqb}
 use Rattle.answer.specs.declared.Refusal.{Refusal}
-use Rattle.answer.specs.declared.Answer.{Answer}
-use Rattle.answer.specs.declared.Answer.TheVariants.{Refused}
-use Rattle.answer.specs.Values.{Value, gives, passes, check, and_then, checked, refusal, answer_value}
-use Rattle.answer.proofs.Values.{gives-injective, refusal-gives, passes-injective, passes-fails, check-passed, checked-passes, then-passed, answer-failed}
+use Rattle.answer.specs.Values.{Value, gives, passes, check, and_then, checked, value_of}
+use Rattle.answer.proofs.Values.{gives-injective, refusal-gives, passes-injective, passes-fails, check-passed, then-passed, value-failed}
 use Rattle.shape.specs.declared.Shape.{Shape}
 use Rattle.shape.specs.declared.Sizes.{Sizes}
 use Rattle.shape.specs.Shapes.{cells, sizes, shape_checked}
@@ -23,9 +22,7 @@ use Rattle.pack.specs.Packs.{sends, air_pack, sent_packets, air_size, pack_size}
 use Rattle.pack.specs.Reading.{used_by, header_with, header_for, sent_checked}
 use Rattle.pack.proofs.Sound.{HeaderSent, sent-passed, sent-passes, cells_le}
 use Rattle.pack.proofs.Sent.{all-sent}
-use Rattle.pack_writer.specs.declared.PackSize.{PackSize}
-use Rattle.pack_writer.specs.declared.PackSize.TheVariants.{Bytes, Refused as NoSize}
-use Rattle.pack_writer.specs.Writing.{written_checked, size_value, air_checked, AirOutcome, air_kept, air_written}
+use Rattle.pack_writer.specs.Writing.{written_checked, air_checked, AirOutcome, air_kept, air_written}
 
 -- ---- sizes
 
@@ -56,17 +53,17 @@ sent-small h n e =
     )
 
 -- what a caller with a header that section 1 can have learns from `written_bytes`
-module _ (h : Header) (sent : HeaderSent h) (r : PackSize) (e : size_value r ≡ checked (written_checked h)) where
-  written-value : size_value r ≡ gives (pack_size h)
+module _ (h : Header) (sent : HeaderSent h) (r : Result ℕ Refusal) (e : value_of r ≡ checked (written_checked h)) where
+  written-value : value_of r ≡ gives (pack_size h)
   unfolding written_checked pack_size and_then checked
   written-value = rw (sent-passes h sent) at e
 
-  pub written-given : (n : ℕ) → r ≡ Bytes n → n ≡ pack_size h
-  unfolding size_value
+  pub written-given : (n : ℕ) → r ≡ Ok n → n ≡ pack_size h
+  unfolding value_of
   written-given n q = gives-injective n (pack_size h) (rw q at written-value)
 
-  pub written-refused : (f : Refusal) → r ≡ NoSize f → ⊥
-  unfolding size_value
+  pub written-refused : (f : Refusal) → r ≡ Err f → ⊥
+  unfolding value_of
   written-refused f q = refusal-gives f (pack_size h) (rw q at written-value)
 
 -- and any other
@@ -77,15 +74,6 @@ written-passed h size e =
     let (sent, same) = sent-passed h n passed in
     let told : air_size h n ≡ size = passes-injective _ _ rest in
     (sent, sym told ∙ ap (air_size h) same)
-
-module _ (h : Header) (r : PackSize) (e : size_value r ≡ checked (written_checked h)) where
-  pub written-told : (n : ℕ) → r ≡ Bytes n → written_checked h ≡ passes n
-  unfolding size_value
-  written-told n q = checked-passes (written_checked h) n (rw q at e)
-
-  pub written-not : (f : Refusal) → r ≡ NoSize f → refusal {A = ℕ} f ≡ checked (written_checked h)
-  unfolding size_value
-  written-not f q = rw q at e
 
 -- ---- `write_air`
 
@@ -105,12 +93,12 @@ unfolding air_checked written_checked pack_size and_then check
 passed-air h bytes size sent p q =
     rw (sent-passes h sent, both_true (eqb bytes (h.shape.w * cells h.shape)) (eqb size (air_size h (number (sends h) (cells h.shape)))) (eq-eqb _ _ p) (eq-eqb _ _ q))
 
-pub air-unfit : (h : Header) (xs s : List ℕ) (r : Answer) (f : Refusal) → answer_value r ≡ checked (air_checked h (length xs) (length s))
-    → r ≡ Refused f → AirOutcome h xs s s (answer_value r)
-unfolding answer_value
+pub air-unfit : (h : Header) (xs s : List ℕ) (r : Result Unit Refusal) (f : Refusal) → value_of r ≡ checked (air_checked h (length xs) (length s))
+    → r ≡ Err f → AirOutcome h xs s s (value_of (Err f))
+unfolding value_of
 air-unfit h xs s r f e q =
-    let (n, failed, value) = answer-failed {B = Unit} r _ f e q in
-    rw (q, value) (air_kept n failed refl)
+    let (n, failed, value) = value-failed {B = Unit} r _ f e q in
+    rw value (air_kept n failed refl)
 
 -- slices of a header's lengths hold the pack afterwards
 pub air-wrote : (h : Header) (xs before after : List ℕ) (v : Value Unit) → AirOutcome h xs before after v → HeaderSent h

@@ -1,10 +1,11 @@
 -- The rows of a cube as they are sent: the first cells of a row, none behind them, and its two parity cells; so row by row the packets of every cell
 -- that is sent.
+use Rattle.std.specs.Prelude.{min}
 use mathlib.Core.Path.{◌≡◌, refl, sym, ap, ◌∙◌}
 use mathlib.Core.Bool.{Bool, true, false, cond}
 use mathlib.Core.List.{List, [], ◌++◌, map, append_assoc}
 use Prim.Native.Nat.{ℕ, ◌+◌, ◌-◌, ◌*◌, ◌/◌, ◌%◌, ◌≤◌, ◌<◌}
-use native.Mathlib.Nat.{add_comm, add-mul, mul-le-mul_right, mul_assoc, mul_comm, mod-lt, mod-add-div, div-lt_iff_lt-mul, div-div-eq-div-mul, mul-le-mul_left}
+use native.Mathlib.Nat.{add_comm, add-mul, mul-le-mul_right, mul_assoc, mul_comm, mod-lt, mod-add-div, div-div-eq-div-mul, mul-le-mul_left}
 use native.Mathlib.Decide.{dec_lt, dec_le}
 use native.Mathlib.Omega.{arith}
 use lib.Arith.{digits_div, digits_mod}
@@ -20,56 +21,30 @@ use Rattle.stopping.proofs.Number.{number-inc}
 use Rattle.cursor.specs.declared.Cursor.{Cursor}
 use Rattle.pack.specs.declared.Header.{Header}
 use Rattle.pack.specs.Packs.{Packet, packets, packet_of, up_from, unsent, sends, sent_below, sent_packets}
-use Rattle.pack.proofs.Sound.{HeaderSent, cells_le}
+use Rattle.pack.proofs.Sound.{HeaderSent}
 use Rattle.pack.proofs.Sent.{parity-1, parity-2, parity-3, data-unsent, sent_below-run, sent_below-skip, sent_below-length, sent_below-at}
 use Rattle.pack.specs.Packets.{packet_no}
 use Rattle.pack.proofs.Written.{Sized, packets-length, get_or-inside, up_from-length, packet_of-length}
 use Rattle.pack_writer.specs.Writing.{Laid}
-use Rattle.pack_writer.specs.Inner.Writing.{IsCell, packets_from, packets_below, least, row_sent}
+use Rattle.pack_writer.specs.Inner.Writing.{IsCell, packets_from, packets_below, row_sent}
 use Rattle.pack_writer.proofs.Laying.{packets-none, packets-laid, from_bytes}
 
--- ---- the lesser of two numbers
-
-pub least-right : (a b : ℕ) → least a b ≤ b
-unfolding least
-least-right a b =
-    elim (dec_le a b) [
-      | yes l ↦ rw (le-leb a b l) l
-      | no l ↦ rw (lt-leb a b (omega arith)) (omega arith)
-    ]
-
-pub least-left-is : (a b : ℕ) → a ≤ b → least a b ≡ a
-unfolding least
-least-left-is a b l = rw (le-leb a b l)
-
-pub least-right-is : (a b : ℕ) → b < a → least a b ≡ b
-unfolding least
-least-right-is a b l = rw (lt-leb a b l)
-
-least-leb : (u r k a : ℕ) → a < k → leb u (a + r) ≡ leb (least (u - r) k) a
-least-leb u r k a l =
+-- which places stand behind those in use
+min-leb : (u r k a : ℕ) → a < k → leb u (a + r) ≡ leb (min (u - r) k) a
+min-leb u r k a l =
     elim (dec_le u (a + r)) [
-      | yes few ↦ le-leb u (a + r) few ∙ sym (ap (λ (n : ℕ). leb n a) (least-left-is (u - r) k (omega arith)) ∙ le-leb (u - r) a (omega arith))
-      | no many ↦ lt-leb u (a + r) (omega arith) ∙ sym (elim (dec_le (u - r) k) [
-        | yes short ↦ ap (λ (n : ℕ). leb n a) (least-left-is (u - r) k short) ∙ lt-leb (u - r) a (omega arith)
-        | no long ↦ ap (λ (n : ℕ). leb n a) (least-right-is (u - r) k (omega arith)) ∙ lt-leb k a l
-      ])
+      | yes few ↦ le-leb u (a + r) few ∙ sym (le-leb (min (u - r) k) a (omega arith))
+      | no many ↦ lt-leb u (a + r) (omega arith) ∙ sym (lt-leb (min (u - r) k) a (omega arith))
     ]
 
 -- ---- the cells of a row
-
-pub small-third : {c l : ℕ} → c < l → l ≤ 255 → c < 256
-small-third p q = omega arith
 
 module _ (sh : Shape) (v : Valid sh) (q : ℕ) (inside : q < sh.l2 * sh.l3) where
   two : 0 < sh.l2
   two = omega (arith, v.l2_low)
 
-  pub row-second : q % sh.l2 < sh.l2
+  row-second : q % sh.l2 < sh.l2
   row-second = mod-lt q two
-
-  pub row-third : q / sh.l2 < sh.l3
-  row-third = (div-lt_iff_lt-mul two).1 (rw (mul_comm sh.l3 sh.l2) inside)
 
   -- place a of row q
   row-cell : (a : ℕ) → cell sh a (q % sh.l2) (q / sh.l2) ≡ sh.l1 * q + a
@@ -95,9 +70,6 @@ module _ (sh : Shape) (v : Valid sh) (q : ℕ) (inside : q < sh.l2 * sh.l3) wher
       let next : sh.l1 * (q + 1) ≤ sh.l1 * (sh.l2 * sh.l3) = mul-le-mul_left sh.l1 (omega arith) in
       omega (arith, mul_assoc sh.l1 sh.l2 sh.l3)
 
-  pub row_small : sh.l1 * q ≤ 16777216
-  row_small = omega (arith, row_inside, cells_le sh v)
-
 -- ---- which of them are sent
 
 module _ (h : Header) (sent : HeaderSent h) (q : ℕ) (inside : q < h.shape.l2 * h.shape.l3) where
@@ -118,22 +90,13 @@ module _ (h : Header) (sent : HeaderSent h) (q : ℕ) (inside : q < h.shape.l2 *
   row-sent-parity =
       (λ l. rw (le-ltb b (sh.l2 - 2) l), λ l. rw (le-ltb c (sh.l3 - 2) l) (either (ltb b (sh.l2 - 2))))
     where
-      either : (t : Bool) → cond (cond t false false) (least (h.used - rank) (sh.l1 - 2)) (sh.l1 - 2) ≡ sh.l1 - 2
+      either : (t : Bool) → cond (cond t false false) (min (h.used - rank) (sh.l1 - 2)) (sh.l1 - 2) ≡ sh.l1 - 2
       either true = refl
       either false = refl
 
-  pub row-sent-data : b < sh.l2 - 2 → c < sh.l3 - 2 → row_sent h q ≡ least (h.used - rank) (sh.l1 - 2)
+  pub row-sent-data : b < sh.l2 - 2 → c < sh.l3 - 2 → row_sent h q ≡ min (h.used - rank) (sh.l1 - 2)
   unfolding row_sent both
   row-sent-data l m = rw (lt-ltb b (sh.l2 - 2) l, lt-ltb c (sh.l3 - 2) m)
-
-  pub row-none : b < sh.l2 - 2 → c < sh.l3 - 2 → h.used ≤ rank → row_sent h q ≡ 0
-  row-none l m few = row-sent-data l m ∙ least-left-is (h.used - rank) (sh.l1 - 2) (omega arith) ∙ omega arith
-
-  pub row-full : b < sh.l2 - 2 → c < sh.l3 - 2 → sh.l1 - 2 < h.used - rank → row_sent h q ≡ sh.l1 - 2
-  row-full l m many = row-sent-data l m ∙ least-right-is (h.used - rank) (sh.l1 - 2) many
-
-  pub row-part : b < sh.l2 - 2 → c < sh.l3 - 2 → h.used - rank ≤ sh.l1 - 2 → row_sent h q ≡ h.used - rank
-  row-part l m some = row-sent-data l m ∙ least-left-is (h.used - rank) (sh.l1 - 2) some
 
   -- of the first cells of a row those before the count are sent, and no others
   row-unsent : (a : ℕ) → a < sh.l1 - 2 → unsent h (sh.l1 * q + a) ≡ leb (row_sent h q) a
@@ -145,7 +108,7 @@ module _ (h : Header) (sent : HeaderSent h) (q : ℕ) (inside : q < h.shape.l2 *
         | no more ↦ parity-2 h a b c la cells-b (omega arith) ∙ sym (ap (λ (n : ℕ). leb n a) (row-sent-parity.0 (omega arith)) ∙ lt-leb (sh.l1 - 2) a l)
         | yes second ↦ elim (dec_lt c (sh.l3 - 2)) [
           | no more ↦ parity-3 h a b c la cells-b (omega arith) ∙ sym (ap (λ (n : ℕ). leb n a) (row-sent-parity.1 (omega arith)) ∙ lt-leb (sh.l1 - 2) a l)
-          | yes third ↦ data-unsent h a b c la cells-b l second third ∙ least-leb h.used rank (sh.l1 - 2) a l ∙ sym (ap (λ (n : ℕ). leb n a) (row-sent-data second third))
+          | yes third ↦ data-unsent h a b c la cells-b l second third ∙ min-leb h.used rank (sh.l1 - 2) a l ∙ sym (ap (λ (n : ℕ). leb n a) (row-sent-data second third))
         ]
       ]
 
@@ -155,7 +118,7 @@ module _ (h : Header) (sent : HeaderSent h) (q : ℕ) (inside : q < h.shape.l2 *
         | no more ↦ omega (arith, row-sent-parity.0 (omega arith))
         | yes second ↦ elim (dec_lt c (sh.l3 - 2)) [
           | no more ↦ omega (arith, row-sent-parity.1 (omega arith))
-          | yes third ↦ omega (arith, row-sent-data second third, least-right (h.used - rank) (sh.l1 - 2))
+          | yes third ↦ omega (arith, row-sent-data second third)
         ]
       ]
 

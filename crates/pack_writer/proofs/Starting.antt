@@ -1,12 +1,13 @@
 -- The parts of an air pack: the checks before its packets and what `start_air` and `write_coordinates` answer.
+use Rattle.std.specs.Prelude.{Result, Ok, Err}
 use mathlib.Core.Path.{◌≡◌, refl, sym, ap, ◌∙◌}
 use mathlib.Core.List.{List}
-use Prim.Native.Nat.{ℕ, ◌+◌, ◌≤◌, ◌<◌}
+use Prim.Native.Nat.{ℕ, ◌+◌, ◌≤◌}
 use lib.Dec.{eqb}
 use lib.ListN.{length, set}
 use borrow.Author.Tests.{leb-true, le-leb, eqb-true, eq-eqb, ne_eqb}
 use Rattle.answer.specs.declared.Refusal.{Refusal}
-use Rattle.answer.specs.Values.{refusal, Checked, passes, fails, check, checked, and_then}
+use Rattle.answer.specs.Values.{refusal, Checked, passes, fails, check, checked, and_then, value_of}
 use Rattle.answer.proofs.Values.{passes-injective, check-passed, checked-passes, checked-fails, then-passed}
 use Rattle.shape.specs.declared.Shape.{Shape}
 use Rattle.shape.specs.Shapes.{Valid, capacity, sizes, shape_checked}
@@ -14,10 +15,7 @@ use Rattle.shape.proofs.Valid.{shape-passed, valid-passes}
 use Rattle.cursor.specs.declared.Cursor.{Cursor}
 use Rattle.pack.specs.Packs.{air_size}
 use Rattle.pack.specs.Reading.{header_for}
-use Rattle.pack_writer.specs.declared.PackSize.{PackSize}
-use Rattle.pack_writer.specs.declared.PackSize.TheVariants.{Bytes, Refused as NoSize}
-use Rattle.pack_writer.specs.declared.AirStart.TheVariants.{Refused as NoStart}
-use Rattle.pack_writer.specs.Writing.{air_size_checked, size_value, start_checked, start_value, StartOutcome, start_refused, CoordinatesOutcome, coordinates_written, coordinates_outside}
+use Rattle.pack_writer.specs.Writing.{air_size_checked, start_checked, StartOutcome, start_refused, CoordinatesOutcome, coordinates_written}
 use Rattle.pack_writer.proofs.Laying.{put_three}
 
 -- ---- the checks
@@ -38,20 +36,20 @@ start-passed sh n len e =
     (v, room, eqb-true len size (check-passed _ 4 _ tt rest).0 ∙ same)
 
 -- what a caller learns from `air_bytes`
-module _ (sh : Shape) (n : ℕ) (r : PackSize) (e : size_value r ≡ checked (air_size_checked sh n)) where
-  pub air-size-given : (size : ℕ) → r ≡ Bytes size → air_size_checked sh n ≡ passes size
-  unfolding size_value
+module _ (sh : Shape) (n : ℕ) (r : Result ℕ Refusal) (e : value_of r ≡ checked (air_size_checked sh n)) where
+  pub air-size-given : (size : ℕ) → r ≡ Ok size → air_size_checked sh n ≡ passes size
+  unfolding value_of
   air-size-given size q = checked-passes (air_size_checked sh n) size (rw q at e)
 
-  pub air-size-refused : (f : Refusal) → r ≡ NoSize f → refusal {A = ℕ} f ≡ checked (air_size_checked sh n)
-  unfolding size_value
+  pub air-size-refused : (f : Refusal) → r ≡ Err f → refusal {A = ℕ} f ≡ checked (air_size_checked sh n)
+  unfolding value_of
   air-size-refused f q = rw q at e
 
 -- ---- `start_air`
 
 pub start-unfit : (sh : Shape) (n : ℕ) (s : List ℕ) (f : Refusal) → refusal {A = ℕ} f ≡ checked (air_size_checked sh n)
-    → StartOutcome sh n s s (start_value (NoStart f))
-unfolding start_value start_checked and_then
+    → StartOutcome sh n s s (value_of (Err f))
+unfolding value_of start_checked and_then
 start-unfit sh n s f e =
     let (number, failed, value) = checked-fails {B = Cursor} (air_size_checked sh n) f e in
     let first : start_checked sh n (length s) ≡ fails number = ap (λ (c : Checked ℕ). and_then c (λ size. check (eqb (length s) size) 4 (passes tt))) failed in
@@ -78,6 +76,3 @@ start-passes sh n len v room same =
 pub coordinates-laid : (s : List ℕ) (at : Cursor) (a b c : ℕ) → at.at + 3 ≤ length s
     → CoordinatesOutcome s at a b c (set (set (set s at.at a) (at.at + 1) b) (at.at + 2) c) (record { at = at.at + 3 })
 coordinates-laid s at a b c room = coordinates_written room (record { put = put_three s at.at a b c room; behind = refl })
-
-pub coordinates-kept : (s : List ℕ) (at : Cursor) (a b c : ℕ) → length s < at.at + 3 → CoordinatesOutcome s at a b c s at
-coordinates-kept s at a b c short = coordinates_outside short refl refl

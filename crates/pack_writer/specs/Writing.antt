@@ -1,6 +1,6 @@
 -- Writing (document 01, "Packs"): what the writing calls answer and leave for every input.
 use Rattle.std.specs.Prelude.{◌≡◌, List, [], ◌∷◌, ℕ, ◌+◌, ◌*◌, ◌≤◌, ◌<◌, eqb, leb, length}
-use Rattle.answer.specs.Values.{Value, gives, refused, Checked, passes, fails, check, and_then, refusal}
+use Rattle.answer.specs.Values.{Value, gives, refused, Checked, passes, fails, check, and_then}
 use Rattle.span.specs.Span.{Put}
 use Rattle.shape.specs.declared.Shape.{Shape}
 use Rattle.shape.specs.Shapes.{both, cells, shape_checked}
@@ -8,10 +8,6 @@ use Rattle.cursor.specs.declared.Cursor.{Cursor}
 use Rattle.pack.specs.declared.Header.{Header}
 use Rattle.pack.specs.Packs.{air_pack, air_head, sent_packets, air_size, pack_size}
 use Rattle.pack.specs.Reading.{header_for, sent_checked}
-use Rattle.pack_writer.specs.declared.PackSize.{PackSize}
-use Rattle.pack_writer.specs.declared.PackSize.TheVariants.{Bytes, Refused}
-use Rattle.pack_writer.specs.declared.AirStart.{AirStart}
-use Rattle.pack_writer.specs.declared.AirStart.TheVariants.{Started, Refused as NoStart}
 
 -- the size of the written pack with count 5, where the shape has none of 1, 2, 3
 unfoldable pub size_checked : Shape → Checked ℕ
@@ -28,11 +24,6 @@ air_size_checked sh n =
     check (leb 4 z.capacity) 10
     (passes (air_size (header_for sh) n)))
 
--- what `pack_bytes`, `written_bytes` and `air_bytes` answer
-unfoldable pub size_value : PackSize → Value ℕ
-size_value (Bytes n) = gives n
-size_value (Refused f) = refusal f
-
 -- ---- parts, each from the byte where the one before ended
 
 -- the list vs stands at the cursor, every other byte is kept, and the next cursor stands behind it
@@ -46,10 +37,6 @@ start_checked sh n pack_length =
     and_then (air_size_checked sh n) (λ size.
     check (eqb pack_length size) 4
     (passes tt))
-
-unfoldable pub start_value : AirStart → Value Cursor
-start_value (Started c) = gives c
-start_value (NoStart f) = refusal f
 
 -- `start_air`: what stands before the packets begins the slice, and the cursor stands behind it. A refusal changes no byte.
 pub data StartOutcome (sh : Shape) (n : ℕ) (before after : List ℕ) : Value Cursor → Type 0 where

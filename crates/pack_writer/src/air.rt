@@ -1,45 +1,36 @@
 // Writing an air pack of any packets part by part, with count 5: its size, what stands before the packets, and how each packet begins.
 ghost use Rattle.std.specs.Prelude.{◌≡◌, ◌++◌, ◌+◌, ◌≤◌, length};
-ghost use Rattle.answer.specs.Values.{checked};
+ghost use Rattle.answer.specs.Values.{value_of, checked};
 ghost use Rattle.shape.specs.Shapes.{Valid};
 ghost use Rattle.cursor.specs.Steps.{word_bytes};
 ghost use Rattle.pack.specs.Packs.{section_one};
-ghost use Rattle.pack_writer.specs.Writing.{air_size_checked, size_value, start_value, StartOutcome, CoordinatesOutcome, Laid};
+ghost use Rattle.pack_writer.specs.Writing.{air_size_checked, StartOutcome, CoordinatesOutcome, Laid};
 
 use crate::writing::{put_count, put_shape, size_of};
-use crate::{AirStart, PackSize};
 use answer::{Fault, Refusal};
 use cursor::Cursor;
-use shape::{Measured, Shape};
+use shape::Shape;
 
 // The bytes of an air pack with so many packets.
-pub fn air_bytes(sh: Shape, packets: u32) -> PackSize
-    ensures { size_value result ≡ checked (air_size_checked sh packets) }
+pub fn air_bytes(sh: Shape, packets: u32) -> Result<usize, Refusal>
+    ensures { value_of result ≡ checked (air_size_checked sh packets) }
 {
-    match shape::measure(sh) {
-        Measured::Refused(f) => PackSize::Refused(f),
-        Measured::Fits(z) => {
-            if z.capacity < 4 {
-                return PackSize::Refused(Refusal::Plain(Fault::Capacity));
-            }
-            PackSize::Bytes(size_of(5, packets as usize, sh.w))
-        }
+    let z = shape::measure(sh)?;
+    if z.capacity < 4 {
+        return Err(Refusal::Plain(Fault::Capacity));
     }
+    Ok(size_of(5, packets as usize, sh.w))
 }
 
 // Writes all that stands before the packets where `out` has the bytes of an air pack with so many, and answers the cursor behind it.
-pub fn start_air(out: &mut [u8], sh: Shape, packets: u32) -> AirStart
-    ensures { StartOutcome sh packets out.old out.new (start_value result) }
+pub fn start_air(out: &mut [u8], sh: Shape, packets: u32) -> Result<Cursor, Refusal>
+    ensures { StartOutcome sh packets out.old out.new (value_of result) }
 {
-    match air_bytes(sh, packets) {
-        PackSize::Refused(f) => AirStart::Refused(f),
-        PackSize::Bytes(n) => {
-            if out.len() != n {
-                return AirStart::Refused(Refusal::Plain(Fault::SliceLength));
-            }
-            AirStart::Started(put_head(out, sh, 5, 0, packets as usize))
-        }
+    let n = air_bytes(sh, packets)?;
+    if out.len() != n {
+        return Err(Refusal::Plain(Fault::SliceLength));
     }
+    Ok(put_head(out, sh, 5, 0, packets as usize))
 }
 
 // Section 1, section 2 without a file, and the count of section 3.
@@ -63,13 +54,13 @@ fn put_section(out: &mut [u8], sh: Shape, count: usize, used: usize) -> Cursor
     requires { Valid sh × (9 ≤ length out.old) × (count ≡ 9 → 13 ≤ length out.old) }
     ensures { Laid out.old (record { at = 0 }) (section_one sh count used) out.new result }
 {
-    let start = Cursor { at: 0 };
-    let body = put_count(start, out, count);
+    let body = put_count(Cursor { at: 0 }, out, count);
     let behind = put_shape(out, body, sh);
     if count == 9 {
-        return put_count(behind, out, used);
+        put_count(behind, out, used)
+    } else {
+        behind
     }
-    behind
 }
 
 // Writes a packet's a, b and c at the cursor, and answers the cursor behind them; where they don't fit, nothing changes.
@@ -78,10 +69,7 @@ pub fn write_coordinates(out: &mut [u8], at: Cursor, a: u8, b: u8, c: u8) -> Cur
 {
     let i = at.at;
     let len = out.len();
-    if len < 3 {
-        return at;
-    }
-    if len - 3 < i {
+    if len < 3 || len - 3 < i {
         return at;
     }
     out[i] = a;

@@ -9,17 +9,3 @@ pub use air::{air_bytes, start_air, write_coordinates};
 use answer::Refusal;
 use cursor::Cursor;
 pub use writing::{pack_bytes, write_air, written_bytes};
-
-// The cursor behind what stands before the packets of an air pack.
-#[derive(Clone, Copy)]
-pub enum AirStart {
-    Started(Cursor),
-    Refused(Refusal),
-}
-
-// The bytes of a pack with every cell that is sent, or with so many packets.
-#[derive(Clone, Copy)]
-pub enum PackSize {
-    Bytes(usize),
-    Refused(Refusal),
-}

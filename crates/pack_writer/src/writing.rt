@@ -1,74 +1,56 @@
 // Writing an air pack of every cell of a cube that is sent: each part from the byte where the one before ended.
 ghost use Rattle.std.specs.Prelude.{◌≡◌, ◌++◌, ◌+◌, ◌-◌, ◌*◌, ◌≤◌, ◌<◌, length, take, drop};
-ghost use Rattle.answer.specs.Values.{answer_value, checked};
+ghost use Rattle.answer.specs.Values.{value_of, checked};
 ghost use Rattle.span.specs.Span.{Put};
 ghost use Rattle.shape.specs.Shapes.{Valid, cells};
 ghost use Rattle.stopping.specs.Stopping.{number};
 ghost use Rattle.cursor.specs.Steps.{word_bytes};
 ghost use Rattle.pack.specs.Packs.{shape_bytes, packet_bytes, packets, packet_of, sends, sent_packets, air_pack, pack_size};
 ghost use Rattle.pack.proofs.Sound.{HeaderSent};
-ghost use Rattle.pack_writer.specs.Writing.{size_checked, written_checked, size_value, air_checked, AirOutcome, Laid};
+ghost use Rattle.pack_writer.specs.Writing.{size_checked, written_checked, air_checked, AirOutcome, Laid};
 ghost use Rattle.pack_writer.specs.Inner.Writing.{packets_from, row_sent, IsCell};
 
-use crate::PackSize;
 use crate::air::{put_head, write_coordinates};
-use answer::{Answer, Fault, Refusal};
+use answer::{Fault, Refusal};
 use cursor::{Cursor, count_bytes};
-use pack::{Header, SentRead};
-use shape::{Measured, Shape};
+use pack::Header;
+use shape::Shape;
 
 // The bytes of the pack that holds every cell, with count 5.
-pub fn pack_bytes(sh: Shape) -> PackSize
-    ensures { size_value result ≡ checked (size_checked sh) }
+pub fn pack_bytes(sh: Shape) -> Result<usize, Refusal>
+    ensures { value_of result ≡ checked (size_checked sh) }
 {
-    match shape::measure(sh) {
-        Measured::Refused(f) => PackSize::Refused(f),
-        Measured::Fits(z) => PackSize::Bytes(size_of(5, z.cells, sh.w)),
-    }
+    let z = shape::measure(sh)?;
+    Ok(size_of(5, z.cells, sh.w))
 }
 
 // The bytes of the pack that the writer writes with a header.
-pub fn written_bytes(h: Header) -> PackSize
-    ensures { size_value result ≡ checked (written_checked h) }
+pub fn written_bytes(h: Header) -> Result<usize, Refusal>
+    ensures { value_of result ≡ checked (written_checked h) }
 {
-    match pack::sent_cells(h) {
-        SentRead::Refused(f) => PackSize::Refused(f),
-        SentRead::Sent(n) => {
-            let sh = h.shape;
-            PackSize::Bytes(size_of(h.count, n, sh.w))
-        }
-    }
+    let n = pack::sent_cells(h)?;
+    Ok(size_of(h.count, n, h.shape.w))
 }
 
 // Writes the air pack of every cell of the cube that is sent, in cell order, over the whole of `out`.
-pub fn write_air(cube: &[u8], out: &mut [u8], h: Header) -> Answer
-    ensures { AirOutcome h cube.now out.old out.new (answer_value result) }
+pub fn write_air(cube: &[u8], out: &mut [u8], h: Header) -> Result<(), Refusal>
+    ensures { AirOutcome h cube.now out.old out.new (value_of result) }
 {
-    let answer = slices_fit(h, cube.len(), out.len());
-    let Answer::Done = answer else {
-        return answer;
-    };
+    slices_fit(h, cube.len(), out.len())?;
     write_sections(cube, out, h);
-    Answer::Done
+    Ok(())
 }
 
 // The checks of a call that is lent a cube and the pack of its cells.
-fn slices_fit(h: Header, bytes: usize, output: usize) -> Answer
-    ensures { answer_value result ≡ checked (air_checked h bytes output) }
+fn slices_fit(h: Header, bytes: usize, output: usize) -> Result<(), Refusal>
+    ensures { value_of result ≡ checked (air_checked h bytes output) }
 {
-    match written_bytes(h) {
-        PackSize::Refused(f) => Answer::Refused(f),
-        PackSize::Bytes(size) => {
-            let sh = h.shape;
-            if bytes != sh.w * (sh.l1 * sh.l2 * sh.l3) {
-                return Answer::Refused(Refusal::Plain(Fault::SliceLength));
-            }
-            if output != size {
-                return Answer::Refused(Refusal::Plain(Fault::SliceLength));
-            }
-            Answer::Done
-        }
+    let size = written_bytes(h)?;
+    let sh = h.shape;
+    if bytes != sh.w * (sh.l1 * sh.l2 * sh.l3) || output != size {
+        return Err(Refusal::Plain(Fault::SliceLength));
     }
+    Ok(())
 }
 
 // The bytes of an air pack with so many packets of w bytes, whose section 1 has this count.
@@ -80,13 +62,12 @@ pub(crate) fn size_of(count: usize, packets: usize, w: usize) -> usize
     12 + count + packets * packet
 }
 
-// The three sections.
+// The three sections. What `requires` says of the header leaves `sent_cells` no refusal, so none is answered.
 fn write_sections(cube: &[u8], out: &mut [u8], h: Header)
     requires { HeaderSent h × (length cube.now ≡ h.shape.w * cells h.shape) × (length out.old ≡ pack_size h) }
     ensures { out.new ≡ air_pack h (sent_packets h cube.now) }
 {
-    let sent = pack::sent_cells(h);
-    let SentRead::Sent(n) = sent else {
+    let Ok(n) = pack::sent_cells(h) else {
         return;
     };
     let first = put_head(out, h.shape, h.count, h.used, n);
@@ -98,10 +79,7 @@ pub(crate) fn put_count(c: Cursor, out: &mut [u8], n: usize) -> Cursor
     requires { c.at + 4 ≤ length out.old }
     ensures { Laid out.old c (word_bytes n) out.new result }
 {
-    let at = c.at;
-    let bytes = count_bytes(n);
-    span::copy(&bytes, out, 0, at, 4);
-    Cursor { at: at + 4 }
+    put_bytes(c, out, &count_bytes(n), 0, 4)
 }
 
 // The first five bytes of section 1.
@@ -109,13 +87,9 @@ pub(crate) fn put_shape(out: &mut [u8], c: Cursor, sh: Shape) -> Cursor
     requires { Valid sh × (c.at + 5 ≤ length out.old) }
     ensures { Laid out.old c (shape_bytes sh) out.new result }
 {
-    let at = c.at;
-    out[at] = (sh.l1 % 256) as u8;
-    out[at + 1] = (sh.l2 % 256) as u8;
-    out[at + 2] = (sh.l3 % 256) as u8;
-    out[at + 3] = (sh.w % 256) as u8;
-    out[at + 4] = (sh.w / 256 % 256) as u8;
-    Cursor { at: at + 5 }
+    let [low, high, ..] = sh.w.to_le_bytes();
+    let bytes = [sh.l1 as u8, sh.l2 as u8, sh.l3 as u8, low, high];
+    put_bytes(c, out, &bytes, 0, 5)
 }
 
 // The n bytes of `src` from `from` on.
@@ -135,12 +109,9 @@ fn put_rows(cube: &[u8], out: &mut [u8], c: Cursor, h: Header)
     ensures { Put out.old c.at (packets (sent_packets h cube.now)) out.new }
 {
     let sh = h.shape;
-    let rows = sh.l2 * sh.l3;
     let mut next = c;
-    let mut q = 0;
-    while q < rows {
+    for q in 0..sh.l2 * sh.l3 {
         next = put_row(cube, out, next, h, q);
-        q += 1;
     }
 }
 
@@ -165,20 +136,11 @@ fn row_sent(h: Header, q: usize) -> usize
     let width = sh.l1 - 2;
     let b = q % sh.l2;
     let c = q / sh.l2;
-    if sh.l2 - 2 <= b {
-        return width;
-    }
-    if sh.l3 - 2 <= c {
+    if sh.l2 - 2 <= b || sh.l3 - 2 <= c {
         return width;
     }
     let before = width * (b + (sh.l2 - 2) * c);
-    if h.used <= before {
-        return 0;
-    }
-    if width < h.used - before {
-        return width;
-    }
-    h.used - before
+    h.used.saturating_sub(before).min(width)
 }
 
 // The packets of the cells from a place of row q on, up to another.
@@ -198,10 +160,8 @@ fn put_run(
     let b = q % sh.l2;
     let c3 = q / sh.l2;
     let mut next = c;
-    let mut a = from;
-    while a < to {
+    for a in from..to {
         next = put_packet(cube, out, next, sh, sh.l1 * q + a, a, b, c3);
-        a += 1;
     }
     next
 }
@@ -221,6 +181,6 @@ fn put_packet(
     ensures { Laid out.old at (packet_bytes (packet_of sh cube.now n)) out.new result }
 {
     let w = sh.w;
-    let cell = write_coordinates(out, at, (a % 256) as u8, (b % 256) as u8, (c % 256) as u8);
+    let cell = write_coordinates(out, at, a as u8, b as u8, c as u8);
     put_bytes(cell, out, cube, n * w, w)
 }

@@ -8,6 +8,6 @@ pub mod Reaching
 -- Together: neighbouring lines filled together are a step of peeling.
 mod Together
 -- Awake: which lines may have changed.
-mod Awake
+pub mod Awake
 -- Visiting: lines visited, and groups of lines that need no visit.
 mod Visiting

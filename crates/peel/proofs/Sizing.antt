@@ -1,17 +1,16 @@
 -- The lengths of a cube and its flags are those of a valid shape where they are what its measure gives; where it gives none, the shape is not valid.
+use Rattle.std.specs.Prelude.{Result, Err}
 use mathlib.Core.Path.{◌≡◌, sym, ap, ◌∙◌}
 use mathlib.Core.List.{List}
 use Prim.Native.Nat.{ℕ}
 use lib.ListN.{length}
 use Rattle.answer.specs.declared.Refusal.{Refusal}
-use Rattle.answer.specs.Values.{passes, checked}
-use Rattle.answer.proofs.Values.{refusal-gives}
+use Rattle.answer.specs.Values.{passes, checked, value_of}
+use Rattle.answer.proofs.Values.{refusal-gives, value-refused}
 use Rattle.shape.specs.declared.Shape.{Shape}
 use Rattle.shape.specs.declared.Sizes.{Sizes}
-use Rattle.shape.specs.declared.Measured.{Measured}
-use Rattle.shape.specs.declared.Measured.TheVariants.{Refused}
-use Rattle.shape.specs.Shapes.{sizes, shape_checked, measured_value}
-use Rattle.shape.proofs.Valid.{shape-passed, valid-passes, measure-refused}
+use Rattle.shape.specs.Shapes.{sizes, shape_checked}
+use Rattle.shape.proofs.Valid.{shape-passed, valid-passes}
 use Rattle.peel.specs.Peel.{Sized}
 
 module _ (sh : Shape) (xs fs : List ℕ) where
@@ -36,6 +35,6 @@ module _ (sh : Shape) (xs fs : List ℕ) where
     unfolding sizes
     sized-flags s = s.flags ∙ sym (ap (λ (y : Sizes). y.cells) same)
 
-  pub refused-unsized : (m : Measured) (f : Refusal) → measured_value m ≡ checked (shape_checked sh) → m ≡ Refused f → Sized sh xs fs → ⊥
+  pub refused-unsized : (m : Result Sizes Refusal) (f : Refusal) → value_of m ≡ checked (shape_checked sh) → m ≡ Err f → Sized sh xs fs → ⊥
   unfolding checked
-  refused-unsized m f e p s = refusal-gives f (sizes sh) (measure-refused sh m f e p ∙ ap checked (valid-passes sh s.valid))
+  refused-unsized m f e p s = refusal-gives f (sizes sh) (value-refused m _ f e p ∙ ap checked (valid-passes sh s.valid))

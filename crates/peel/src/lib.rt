@@ -9,7 +9,8 @@ ghost use Rattle.field.specs.Field.{reduction};
 ghost use Rattle.span.specs.Decision.{Decides};
 ghost use Rattle.peel.specs.Peel.{Sized, PeelOutcome};
 
-use shape::{Measured, Shape};
+use shape::Shape;
+use sweep::Peeling;
 
 // Peels a cube whose flags are 1 at the missing cells: a cell that is filled gets flag 3. Where cube and flags have not the lengths of a valid
 // shape, changes nothing and says so.
@@ -19,8 +20,13 @@ pub fn peel(cube: &mut [u8], flags: &mut [u8], sh: Shape) -> bool
     if !fits(cube, flags, sh) {
         return false;
     }
-    let mut marks = [0u8; 24576];
-    sweep::sweeps(cube, flags, &mut marks, sh);
+    let mut peeling = Peeling {
+        cube,
+        flags,
+        marks: [0; 24576],
+        shape: sh,
+    };
+    peeling.sweeps();
     true
 }
 
@@ -29,7 +35,7 @@ fn fits(cube: &[u8], flags: &[u8], sh: Shape) -> bool
     ensures { Decides (Sized sh cube.now flags.now) result }
 {
     match shape::measure(sh) {
-        Measured::Refused(_) => false,
-        Measured::Fits(z) => cube.len() == z.bytes && flags.len() == z.cells,
+        Err(_) => false,
+        Ok(z) => cube.len() == z.bytes && flags.len() == z.cells,
     }
 }

@@ -22,7 +22,7 @@ pub(crate) struct Progress {
 }
 
 // Visits a line: where it misses one or two cells, fills it together with the lines beside it that miss the same places. `most` lines
-// stand side by side.
+// stand side by side. No method of `Peeling`: once a method has lent its flags to a scan, the proof knows no more of them than their length.
 pub(crate) fn fill_lines(
     cube: &mut [u8],
     flags: &mut [u8],
@@ -33,13 +33,11 @@ pub(crate) fn fill_lines(
 ) -> Progress
     requires sized { Sized sh cube.old flags.old }
     requires neighbours { Neighbours sh line.first line.stride line.len most }
-    requires marks_len { length marks.old ≡ 24576 }
     ensures le_lines { (1 ≤ result.lines) × (result.lines ≤ most) }
     ensures lines_visited { LinesVisited reduction sh line.first line.stride line.len result.lines cube.old flags.old marks.old cube.new flags.new marks.new result.filled }
 {
     let e = erasures::scan_line(flags, line);
-    let count = e.count;
-    if count == 0 || 2 < count {
+    if e.count == 0 || 2 < e.count {
         return Progress {
             lines: 1,
             filled: 0,
@@ -50,7 +48,7 @@ pub(crate) fn fill_lines(
     flag_holes(flags, marks, sh, line, e, n);
     Progress {
         lines: n,
-        filled: count * n,
+        filled: e.count * n,
     }
 }
 
@@ -61,20 +59,17 @@ fn alike(flags: &[u8], line: Line, e: MissingPlaces, most: usize) -> usize
     requires scanned { Scanned (missing flags.now) line.first line.stride line.len e.count e.first e.last }
     ensures { (1 ≤ result) × (result ≤ most) × Alike (missing flags.now) line.first line.stride line.len result e.count e.first e.last }
 {
-    let mut n = 1;
-    while n < most {
+    for n in 1..most {
         let next = Line {
             first: line.first + n,
-            stride: line.stride,
-            len: line.len,
+            ..line
         };
         let s = erasures::scan_line(flags, next);
         if s.count != e.count || s.first != e.first || s.last != e.last {
             return n;
         }
-        n += 1;
     }
-    n
+    most
 }
 
 // Writes the missing cells of n neighbouring lines.
@@ -105,25 +100,20 @@ fn flag_holes(
     e: MissingPlaces,
     n: usize,
 )
-    requires valid { Valid sh × (length flags.old ≡ cells sh) × (length marks.old ≡ 24576) }
+    requires valid { Valid sh × (length flags.old ≡ cells sh) }
     requires neighbours { Neighbours sh line.first line.stride line.len n }
     requires first_le_last { (e.first ≤ e.last) × (e.last < line.len) }
     ensures { Flagged sh line.first line.stride n e.first e.last flags.old marks.old flags.new marks.new }
 {
-    let first = line.first;
-    let stride = line.stride;
-    let j = e.first;
-    let k = e.last;
-    let mut q = 0;
-    while q < n {
-        flag_hole(flags, marks, sh, first + q + stride * j);
-        flag_hole(flags, marks, sh, first + q + stride * k);
-        q += 1;
+    for q in 0..n {
+        let first = line.first + q;
+        flag_hole(flags, marks, sh, first + line.stride * e.first);
+        flag_hole(flags, marks, sh, first + line.stride * e.last);
     }
 }
 
 fn flag_hole(flags: &mut [u8], marks: &mut [u8; 24576], sh: Shape, n: usize)
-    requires { Valid sh × (n < cells sh) × (length flags.old ≡ cells sh) × (length marks.old ≡ 24576) }
+    requires { Valid sh × (n < cells sh) × (length flags.old ≡ cells sh) }
     ensures flags_after { flags.new ≡ set flags.old n 3 }
     ensures woken { Woken sh n marks.old marks.new }
 {

@@ -1,129 +1,123 @@
 // Sweeps over axis 1, 2, 3 and again, until three axes in succession fill nothing. A sweep passes over the lines that nothing has
 // changed on since their last visit: a line that was left then is left now.
-ghost use Rattle.std.specs.Prelude.{◌≡◌, ◌+◌, ◌*◌, ◌%◌, ◌≤◌, ◌<◌, length};
+ghost use Rattle.std.specs.Prelude.{◌≡◌, ◌+◌, ◌*◌, ◌%◌, ◌≤◌, ◌<◌};
 ghost use Rattle.field.specs.Field.{reduction};
 ghost use Rattle.peel.specs.Peel.{Sized, Peeled};
 ghost use Rattle.peel.specs.Inner.Sweep.{AxisStops, LinesStop, Filled, Calm, Visited};
 
 use crate::on_line::Progress;
 use crate::{on_line, wake};
-use shape::{LineAnswer, Shape};
+use shape::Shape;
 
-pub(crate) fn sweeps(cube: &mut [u8], flags: &mut [u8], marks: &mut [u8; 24576], sh: Shape)
-    requires sized { Sized sh cube.old flags.old }
-    requires calm { Calm sh flags.old marks.old }
-    ensures { Peeled reduction sh cube.old flags.old cube.new flags.new }
-{
-    let mut axis = 1;
-    let mut idle: usize = 0;
-    while idle < 3 {
-        let filled = sweep(cube, flags, marks, sh, axis);
-        if filled == 0 {
-            idle += 1;
-        } else {
-            idle = 0;
+// A cube that is being peeled, its flags, and the marks of its lines. A method leaves the slices and the shape what they are.
+#[derive(Drop)]
+pub(crate) struct Peeling<'a> {
+    pub(crate) cube: &'a mut [u8],
+    pub(crate) flags: &'a mut [u8],
+    pub(crate) marks: [u8; 24576],
+    pub(crate) shape: Shape,
+    ghost sized: { Sized shape cube.now flags.now },
+}
+
+impl<'a> Peeling<'a> {
+    pub(crate) fn sweeps(&mut self)
+        requires { Calm self.old.shape self.old.flags.now self.old.marks }
+        ensures cube_is { self.new.cube.ghost_name ≡ self.old.cube.ghost_name }
+        ensures flags_is { self.new.flags.ghost_name ≡ self.old.flags.ghost_name }
+        ensures peeled { Peeled reduction self.old.shape self.old.cube.now self.old.flags.now self.new.cube.now self.new.flags.now }
+    {
+        let mut axis = 1;
+        let mut idle: usize = 0;
+        // No range of numbers: a sweep that fills a cell begins the count anew.
+        while idle < 3 {
+            let filled = self.sweep(axis);
+            idle = if filled == 0 { idle + 1 } else { 0 };
+            axis = axis % 3 + 1;
         }
-        axis = axis % 3 + 1;
     }
-}
 
-// One sweep: each line of an axis that is not quiet, by the cell number of its first cell; answers how many cells it filled.
-fn sweep(
-    cube: &mut [u8],
-    flags: &mut [u8],
-    marks: &mut [u8; 24576],
-    sh: Shape,
-    axis: usize,
-) -> usize
-    requires sized { Sized sh cube.old flags.old }
-    requires calm { Calm sh flags.old marks.old }
-    requires le_axis { (1 ≤ axis) × (axis ≤ 3) }
-    ensures filled { Filled reduction sh (λ fs. AxisStops sh fs axis) cube.old flags.old cube.new flags.new result }
-    ensures calm_2 { Calm sh flags.new marks.new }
-{
-    let groups = wake::groups(sh, axis);
-    let mut filled = 0;
-    let mut g = 0;
-    loop {
-        g = wake::next_awake(marks, axis, g, groups);
-        if g == groups {
-            return filled;
+    // One sweep: each line of an axis that is not quiet, by the cell number of its first cell; answers how many cells it filled.
+    fn sweep(&mut self, axis: usize) -> usize
+        requires calm { Calm self.old.shape self.old.flags.now self.old.marks }
+        requires le_axis { (1 ≤ axis) × (axis ≤ 3) }
+        ensures cube_is { self.new.cube.ghost_name ≡ self.old.cube.ghost_name }
+        ensures flags_is { self.new.flags.ghost_name ≡ self.old.flags.ghost_name }
+        ensures shape_is { self.new.shape ≡ self.old.shape }
+        ensures filled { Filled reduction self.old.shape (λ fs. AxisStops self.old.shape fs axis) self.old.cube.now self.old.flags.now self.new.cube.now self.new.flags.now result }
+        ensures calm_2 { Calm self.old.shape self.new.flags.now self.new.marks }
+    {
+        let groups = wake::groups(self.shape, axis);
+        let mut filled = 0;
+        let mut from = 0;
+        while let Some(g) = wake::next_awake(&self.marks, axis, from, groups) {
+            filled += self.group(axis, g);
+            from = g + 1;
         }
-        filled += group(cube, flags, marks, sh, axis, g);
-        g += 1;
+        filled
     }
-}
 
-// A group is marked quiet before its awake lines are visited: a cell filled on one of them wakes it again.
-fn group(
-    cube: &mut [u8],
-    flags: &mut [u8],
-    marks: &mut [u8; 24576],
-    sh: Shape,
-    axis: usize,
-    g: usize,
-) -> usize
-    requires sized { Sized sh cube.old flags.old }
-    requires calm { Calm sh flags.old marks.old }
-    requires le_axis { (1 ≤ axis) × (axis ≤ 3) × (g < 8192) }
-    ensures filled { Filled reduction sh (LinesStop sh axis (g * 8) (g * 8 + 8)) cube.old flags.old cube.new flags.new result }
-    ensures calm_2 { Calm sh flags.new marks.new }
-{
-    let at = (axis - 1) * 8192 + g;
-    let mark = wake::wide(marks[at]);
-    marks[at] = wake::QUIET;
-    let from = g * 8 + mark / 8;
-    let end = g * 8 + (8 - mark % 8);
-    visit_lines(cube, flags, marks, sh, axis, from, end)
-}
-
-// Visits the lines of an axis from one on and below another, as far as the axis has them.
-fn visit_lines(
-    cube: &mut [u8],
-    flags: &mut [u8],
-    marks: &mut [u8; 24576],
-    sh: Shape,
-    axis: usize,
-    from: usize,
-    end: usize,
-) -> usize
-    requires sized { Sized sh cube.old flags.old }
-    requires le_axis { (1 ≤ axis) × (axis ≤ 3) × (end ≤ 65544) × (length marks.old ≡ 24576) }
-    ensures { Visited reduction sh axis from end cube.old flags.old marks.old cube.new flags.new marks.new result }
-{
-    let mut filled = 0;
-    let mut m = from;
-    while m < end {
-        let step = visit(cube, flags, marks, sh, axis, m, end);
-        filled += step.filled;
-        m += step.lines;
+    // A group is marked quiet before its awake lines are visited: a cell filled on one of them wakes it again.
+    fn group(&mut self, axis: usize, g: usize) -> usize
+        requires calm { Calm self.old.shape self.old.flags.now self.old.marks }
+        requires le_axis { (1 ≤ axis) × (axis ≤ 3) × (g < 8192) }
+        ensures cube_is { self.new.cube.ghost_name ≡ self.old.cube.ghost_name }
+        ensures flags_is { self.new.flags.ghost_name ≡ self.old.flags.ghost_name }
+        ensures shape_is { self.new.shape ≡ self.old.shape }
+        ensures filled { Filled reduction self.old.shape (LinesStop self.old.shape axis (g * 8) (g * 8 + 8)) self.old.cube.now self.old.flags.now self.new.cube.now self.new.flags.now result }
+        ensures calm_2 { Calm self.old.shape self.new.flags.now self.new.marks }
+    {
+        let at = (axis - 1) * 8192 + g;
+        let mark = usize::from(self.marks[at]);
+        self.marks[at] = wake::QUIET;
+        let from = g * 8 + mark / 8;
+        let end = g * 8 + (8 - mark % 8);
+        self.visit_lines(axis, from, end)
     }
-    filled
-}
 
-// Visits line m of an axis, if there is one, and perhaps lines after it, all below `end`.
-fn visit(
-    cube: &mut [u8],
-    flags: &mut [u8],
-    marks: &mut [u8; 24576],
-    sh: Shape,
-    axis: usize,
-    m: usize,
-    end: usize,
-) -> Progress
-    requires sized { Sized sh cube.old flags.old }
-    requires le_axis { (1 ≤ axis) × (axis ≤ 3) × (m < end) × (length marks.old ≡ 24576) }
-    ensures le_lines { (1 ≤ result.lines) × (m + result.lines ≤ end) }
-    ensures visited { Visited reduction sh axis m (m + result.lines) cube.old flags.old marks.old cube.new flags.new marks.new result.filled }
-{
-    let found = shape::axis_line(sh, axis, m);
-    let LineAnswer::Found(line) = found else {
-        return Progress {
-            lines: 1,
-            filled: 0,
+    // Visits the lines of an axis from one on and below another, as far as the axis has them.
+    fn visit_lines(&mut self, axis: usize, from: usize, end: usize) -> usize
+        requires { (1 ≤ axis) × (axis ≤ 3) × (end ≤ 65544) }
+        ensures cube_is { self.new.cube.ghost_name ≡ self.old.cube.ghost_name }
+        ensures flags_is { self.new.flags.ghost_name ≡ self.old.flags.ghost_name }
+        ensures shape_is { self.new.shape ≡ self.old.shape }
+        ensures visited { Visited reduction self.old.shape axis from end self.old.cube.now self.old.flags.now self.old.marks self.new.cube.now self.new.flags.now self.new.marks result }
+    {
+        let mut filled = 0;
+        let mut m = from;
+        // No range of numbers: a visit says how many lines it took.
+        while m < end {
+            let step = self.visit(axis, m, end);
+            filled += step.filled;
+            m += step.lines;
+        }
+        filled
+    }
+
+    // Visits line m of an axis, if there is one, and perhaps lines after it, all below `end`.
+    fn visit(&mut self, axis: usize, m: usize, end: usize) -> Progress
+        requires { (1 ≤ axis) × (axis ≤ 3) × (m < end) }
+        ensures le_lines { (1 ≤ result.lines) × (m + result.lines ≤ end) }
+        ensures cube_is { self.new.cube.ghost_name ≡ self.old.cube.ghost_name }
+        ensures flags_is { self.new.flags.ghost_name ≡ self.old.flags.ghost_name }
+        ensures shape_is { self.new.shape ≡ self.old.shape }
+        ensures visited { Visited reduction self.old.shape axis m (m + result.lines) self.old.cube.now self.old.flags.now self.old.marks self.new.cube.now self.new.flags.now self.new.marks result.filled }
+    {
+        let Ok(line) = shape::axis_line(self.shape, axis, m) else {
+            return Progress {
+                lines: 1,
+                filled: 0,
+            };
         };
-    };
-    on_line::fill_lines(cube, flags, marks, sh, line, beside(line.stride, m, end))
+        let most = beside(line.stride, m, end);
+        on_line::fill_lines(
+            self.cube,
+            self.flags,
+            &mut self.marks,
+            self.shape,
+            line,
+            most,
+        )
+    }
 }
 
 // How many lines stand side by side from line m on, all below `end`: a block of an axis has `stride` of them.
@@ -131,7 +125,5 @@ fn beside(stride: usize, m: usize, end: usize) -> usize
     requires { (0 < stride) × (m < end) }
     ensures { (1 ≤ result) × (m + result ≤ end) × (m % stride + result ≤ stride) }
 {
-    let block = stride - m % stride;
-    let rest = end - m;
-    if block < rest { block } else { rest }
+    (stride - m % stride).min(end - m)
 }

@@ -1,4 +1,5 @@
 -- From what the calls below answer to the outcomes of the calls on plans.
+use Rattle.std.specs.Prelude.{Result, Ok, Err}
 use mathlib.Core.Path.{◌≡◌, refl, sym, ap, subst, ◌∙◌}
 use mathlib.Core.List.{List}
 use Prim.Native.Nat.{ℕ, ◌+◌, ◌*◌, ◌%◌, ◌≤◌}
@@ -7,15 +8,11 @@ use lib.ListN.{length}
 use Rattle.answer.specs.declared.Refusal.{Refusal}
 use Rattle.answer.specs.declared.Refusal.TheVariants.{Plain, Entry}
 use Rattle.answer.specs.declared.Fault.TheVariants.{SliceLength}
-use Rattle.answer.specs.declared.Answer.{Answer}
-use Rattle.answer.specs.declared.Answer.TheVariants.{Refused as Stopped, Done}
 use Rattle.answer.specs.Refusals.{fault_number}
-use Rattle.answer.specs.Values.{Value, gives, refusal, answer_value}
+use Rattle.answer.specs.Values.{Value, gives, refusal, value_of}
 use Rattle.answer.proofs.Values.{gives-injective, refusal-gives, refusal-injective}
 use Rattle.plan_form.specs.declared.PlanCounts.{PlanCounts}
-use Rattle.plan_form.specs.declared.PlanRead.{PlanRead}
-use Rattle.plan_form.specs.declared.PlanRead.TheVariants.{Counted, Refused}
-use Rattle.plan_form.specs.Form.{Plan, plan_end, Broken, IsPlan, FormOutcome, formed, broken, plan_with, plan_in, plan_value, Lists, lists, counts_of, plan_of, plan_bytes, section, lists_in}
+use Rattle.plan_form.specs.Form.{Plan, plan_end, Broken, IsPlan, FormOutcome, formed, broken, plan_with, plan_in, Lists, lists, counts_of, plan_of, plan_bytes, section, lists_in}
 use Rattle.plan.specs.Calls.{Exact, WritePlanOutcome, write_inexact, write_broken, written, Room, begun, lists_begun, ReadPlanOutcome, read_broken, read_short, read_shown}
 use Rattle.plan.proofs.Sections.{closures-size, fibres-size, splices-size}
 
@@ -41,30 +38,30 @@ module _ (cs fs ss before : List ℕ) where
   fitting-exact : Fitting → Exact (lists cs fs ss) (length before)
   fitting-exact (c, f, s, o) = record { closures = c; fibres = f; splices = s; file = o }
 
-  pub write-unfit : (Fitting → ⊥) → WritePlanOutcome (lists cs fs ss) before before (answer_value (Stopped (Plain SliceLength)))
-  unfolding answer_value refusal fault_number
+  pub write-unfit : (Fitting → ⊥) → WritePlanOutcome (lists cs fs ss) before before (value_of (Err (Plain SliceLength)))
+  unfolding value_of refusal fault_number
   write-unfit bad = write_inexact (λ exact. bad (exact.closures, exact.fibres, exact.splices, exact.file)) refl
 
-  module _ (r : Answer) (o : FormOutcome (plan_of (lists cs fs ss)) (plan_end (counts_of (lists cs fs ss))) tt (answer_value r)) (fit : Fitting) where
-    pub write_refused : (f : Refusal) → r ≡ Stopped f → WritePlanOutcome (lists cs fs ss) before before (answer_value (Stopped f))
-    unfolding answer_value refusal
-    write_refused f e = let (at, is, b) = form-refused o f (ap answer_value e) in rw is (write_broken (fitting-exact fit) at b refl)
+  module _ (r : Result Unit Refusal) (o : FormOutcome (plan_of (lists cs fs ss)) (plan_end (counts_of (lists cs fs ss))) tt (value_of r)) (fit : Fitting) where
+    pub write_refused : (f : Refusal) → r ≡ Err f → WritePlanOutcome (lists cs fs ss) before before (value_of (Err f))
+    unfolding value_of refusal
+    write_refused f e = let (at, is, b) = form-refused o f (ap value_of e) in rw is (write_broken (fitting-exact fit) at b refl)
 
-    pub write-told : r ≡ Done → (after : List ℕ) → after ≡ plan_bytes (lists cs fs ss) → WritePlanOutcome (lists cs fs ss) before after (answer_value Done)
-    unfolding answer_value
-    write-told e after is = written (fitting-exact fit) (form-given o tt (ap answer_value e)).0 is
+    pub write-told : r ≡ Ok tt → (after : List ℕ) → after ≡ plan_bytes (lists cs fs ss) → WritePlanOutcome (lists cs fs ss) before after (value_of (Ok tt))
+    unfolding value_of
+    write-told e after is = written (fitting-exact fit) (form-given o tt (ap value_of e)).0 is
 
 -- ---- the reader
 
-module _ (f : List ℕ) (r : PlanRead) (o : FormOutcome (plan_in f) (length f) (plan_in f).counts (plan_value r)) where
-  pub read_refused : (g : Refusal) → r ≡ Refused g → (l : Lists) → ReadPlanOutcome f l l (plan_value (Refused g))
-  unfolding plan_value refusal
-  read_refused g e l = let (at, is, b) = form-refused o g (ap plan_value e) in rw is (read_broken at b refl)
+module _ (f : List ℕ) (r : Result PlanCounts Refusal) (o : FormOutcome (plan_in f) (length f) (plan_in f).counts (value_of r)) where
+  pub read_refused : (g : Refusal) → r ≡ Err g → (l : Lists) → ReadPlanOutcome f l l (value_of (Err g))
+  unfolding value_of refusal
+  read_refused g e l = let (at, is, b) = form-refused o g (ap value_of e) in rw is (read_broken at b refl)
 
-  module _ (n : PlanCounts) (e : r ≡ Counted n) where
+  module _ (n : PlanCounts) (e : r ≡ Ok n) where
     counted : IsPlan (plan_in f) (length f) × (n ≡ (plan_in f).counts)
-    unfolding plan_value
-    counted = form-given o n (ap plan_value e)
+    unfolding value_of
+    counted = form-given o n (ap value_of e)
 
     pub counted-end : plan_end n ≡ length f
     counted-end = subst (λ (m : PlanCounts). plan_end m ≡ length f) (sym counted.1) counted.0.ends
@@ -84,8 +81,8 @@ module _ (f : List ℕ) (r : PlanRead) (o : FormOutcome (plan_in f) (length f) (
       abbrev Enough : Type 0
       Enough = (2 * n.closures ≤ length cs) × (4 * n.fibres ≤ length fs) × (8 * n.splices ≤ length ss)
 
-      pub read-unfit : (Enough → ⊥) → ReadPlanOutcome f (lists cs fs ss) (lists cs fs ss) (plan_value (Refused (Plain SliceLength)))
-      unfolding plan_value refusal fault_number
+      pub read-unfit : (Enough → ⊥) → ReadPlanOutcome f (lists cs fs ss) (lists cs fs ss) (value_of (Err (Plain SliceLength)))
+      unfolding value_of refusal fault_number
       read-unfit bad =
           let (c, g, s) = section-lengths in
           read_short counted.0 (λ room. bad (omega (arith, room.closures), omega (arith, room.fibres), omega (arith, room.splices))) refl
@@ -93,8 +90,8 @@ module _ (f : List ℕ) (r : PlanRead) (o : FormOutcome (plan_in f) (length f) (
       pub read_told : Enough → (cs' fs' ss' : List ℕ) → cs' ≡ begun (section f 4 (2 * n.closures)) cs
           → fs' ≡ begun (section f (8 + 2 * n.closures) (4 * n.fibres)) fs
           → ss' ≡ begun (section f (12 + 2 * n.closures + 4 * n.fibres) (8 * n.splices)) ss
-          → ReadPlanOutcome f (lists cs fs ss) (lists cs' fs' ss') (plan_value (Counted n))
-      unfolding plan_value lists_in lists_begun plan_in plan_with
+          → ReadPlanOutcome f (lists cs fs ss) (lists cs' fs' ss') (value_of (Ok n))
+      unfolding value_of lists_in lists_begun plan_in plan_with
       read_told enough cs' fs' ss' ec ef es =
           let (c, g, s) = section-lengths in
           let room : Room (lists_in f) (lists cs fs ss) = record { closures = omega arith; fibres = omega arith; splices = omega arith } in

@@ -1,31 +1,28 @@
 -- From the receiver's outcome, and the outcome of reading its file, to the outcome of receiving a plan.
-use mathlib.Core.Path.{◌≡◌, refl, sym, ap, ◌∙◌}
+use Rattle.std.specs.Prelude.{Result, Ok, Err}
+use mathlib.Core.Path.{◌≡◌, refl, sym, ap}
 use mathlib.Core.List.{List}
-use mathlib.Core.Logic.{◌≢◌}
-use Prim.Native.Nat.{ℕ, ◌-◌, ◌≤◌}
+use Prim.Native.Nat.{ℕ, ◌≤◌}
 use native.Mathlib.Omega.{arith}
 use lib.ListN.{length, take, drop, length-append}
 use Rattle.answer.specs.declared.Refusal.{Refusal}
 use Rattle.answer.specs.declared.Refusal.TheVariants.{Plain, Entry}
 use Rattle.answer.specs.declared.Fault.TheVariants.{SliceLength}
 use Rattle.answer.specs.Refusals.{fault_number}
-use Rattle.answer.specs.Values.{Value, gives, refusal}
+use Rattle.answer.specs.Values.{Value, gives, refusal, value_of}
 use Rattle.answer.proofs.Values.{gives-injective, refusal-gives, refusal-injective}
 use Rattle.shape.specs.declared.Shape.{Shape}
 use Rattle.receiver.specs.declared.Counts.{Counts}
 use Rattle.receiver.specs.declared.Received.{Received}
-use Rattle.receiver.specs.declared.Ending.TheVariants.{File, Left, Refused}
-use Rattle.receiver.specs.Gathering.{Reception, file, unfit, index, contradiction, some_left, no_counts}
+use Rattle.receiver.specs.declared.Ending.TheVariants.{File, Left}
+use Rattle.receiver.specs.Gathering.{Reception, file, left, unfit, index, contradiction, some_left, no_counts}
 use Rattle.receiver.specs.Opening.{OpenOutcome, held, bad}
-use Rattle.receiver.specs.Receive.{Memory, ending_value, ReceiveOutcome, unopened, bad_file, opened}
+use Rattle.receiver.specs.Receive.{Memory, reception_of, received_value, received_counts, ReceiveOutcome, unopened, bad_file, opened}
 use Rattle.plan_form.specs.declared.PlanCounts.{PlanCounts}
-use Rattle.plan_form.specs.declared.PlanRead.{PlanRead}
-use Rattle.plan_form.specs.declared.PlanRead.TheVariants.{Counted, Refused as NoPlan}
-use Rattle.plan_form.specs.Form.{Lists, plan_value}
+use Rattle.plan_form.specs.Form.{Lists}
 use Rattle.plan.specs.declared.PlanReceived.{PlanReceived}
 use Rattle.plan.specs.Calls.{ReadPlanOutcome, read_broken, read_short, read_shown}
-use Rattle.plan.specs.Receiving.{no_entries, ReceivePlanOutcome, no_file, no_plan, no_room, shown}
-use Rattle.plan.specs.Inner.Answers.{without_plan, answer_of}
+use Rattle.plan.specs.Receiving.{no_entries, shown_value, shown_counts, shown_entries, ReceivePlanOutcome, no_file, no_plan, no_room, shown}
 
 -- a file that was opened lies in its buffer
 module _ {sh : Shape} {xs bs bs' : List ℕ} where
@@ -44,46 +41,51 @@ module _ {r : ℕ} {p : List ℕ} {m m' : Memory} where
   file-inside (bad_file _ _ _ _ _ _) n q = let z : ◌≡◌ {A = ℕ} 0 1 = cc in absurd (omega arith)
   file-inside (opened _ _ _ _ _ _ contents) n q = held-inside contents n (ap gives cc)
 
-  module _ (received : Received) (o : ReceiveOutcome r p m m' (ending_value received.ending) received.counts) where
+  module _ (a : Result Received Refusal) (o : ReceiveOutcome r p m m' (received_value a) (received_counts a)) where
     -- ---- no file
 
-    passed : ((n : ℕ) → ending_value received.ending ≢ gives (file n)) → (l : Lists) (q : PlanReceived) → q ≡ without_plan received
-        → ReceivePlanOutcome r p m m' l l (ending_value q.received.ending) q.received.counts q.entries
-    unfolding without_plan
-    passed none l q e = rw e (no_file _ _ o none refl)
+    pub refused-passed : (f : Refusal) (end : Result PlanReceived Refusal) → a ≡ Err f → end ≡ Err f → (l : Lists)
+        → ReceivePlanOutcome r p m m' l l (shown_value end) (shown_counts end) (shown_entries end)
+    unfolding received_value received_counts shown_value shown_counts shown_entries
+    refused-passed f end e is l = rw is (no_file (refusal f) no_counts (rw e at o) (λ k same. refusal-gives f (file k) same) refl)
 
-    pub left_passed : (n : ℕ) → received.ending ≡ Left n → (l : Lists) (q : PlanReceived) → q ≡ without_plan received
-        → ReceivePlanOutcome r p m m' l l (ending_value q.received.ending) q.received.counts q.entries
-    unfolding ending_value
-    left_passed n is = passed (λ k e. let z : ◌≡◌ {A = ℕ} 0 1 = cc in omega arith)
+    module _ (received : Received) (e : a ≡ Ok received) where
+      came : ReceiveOutcome r p m m' (gives (reception_of received.ending)) received.counts
+      unfolding received_value received_counts
+      came = rw e at o
 
-    pub refused-passed : (f : Refusal) → received.ending ≡ Refused f → (l : Lists) (q : PlanReceived) → q ≡ without_plan received
-        → ReceivePlanOutcome r p m m' l l (ending_value q.received.ending) q.received.counts q.entries
-    unfolding ending_value
-    refused-passed f is = passed (λ k e. refusal-gives f (file k) (sym (ap ending_value is) ∙ e))
+      pub left-passed : (n : ℕ) (q : PlanReceived) → received.ending ≡ Left n → q ≡ record { received = received; entries = no_entries } → (l : Lists)
+          → ReceivePlanOutcome r p m m' l l (shown_value (Ok q)) (shown_counts (Ok q)) (shown_entries (Ok q))
+      unfolding shown_value shown_counts shown_entries reception_of
+      left-passed n q is same l =
+          rw same (no_file _ _ came (λ k named. let other : gives (left n) ≡ gives (file k) = rw is at named in let z : ◌≡◌ {A = ℕ} 0 1 = cc in omega arith) refl)
 
-    -- ---- a file of n bytes, read as a plan
+      -- ---- a file of n bytes, read as a plan
 
-    module _ (n : ℕ) (is : received.ending ≡ File n) where
-      filed : ReceiveOutcome r p m m' (gives (file n)) received.counts
-      unfolding ending_value
-      filed = rw (sym (ap ending_value is)) o
+      module _ (n : ℕ) (is : received.ending ≡ File n) where
+        filed : ReceiveOutcome r p m m' (gives (file n)) received.counts
+        unfolding reception_of
+        filed = rw is at came
 
-      not-shown : {l l' : Lists} {v : Value PlanCounts} → ReadPlanOutcome (take n m'.buffer) l l' v → (f : Refusal) → v ≡ refusal f
-          → ReceivePlanOutcome r p m m' l l' (refusal f) no_counts no_entries
-      unfolding refusal fault_number
-      not-shown (read_broken at b e) f q = rw (sym (refusal-injective (Entry at) f q)) (no_plan n received.counts filed at (read_broken at b e))
-      not-shown (read_short plan room e) f q =
-          rw (sym (refusal-injective (Plain SliceLength) f q)) (no_room n received.counts filed (read_short plan room e))
-      not-shown (read_shown _ _ _) f q = absurd (refusal-gives f _ (sym q))
+        pub file-le : n ≤ length m'.buffer
+        file-le = file-inside filed n refl
 
-      answered : {l l' : Lists} (read : PlanRead) → ReadPlanOutcome (take n m'.buffer) l l' (plan_value read) → (q : PlanReceived) → q ≡ answer_of received read
-          → ReceivePlanOutcome r p m m' l l' (ending_value q.received.ending) q.received.counts q.entries
-      unfolding answer_of without_plan plan_value ending_value
-      answered (Counted e) outcome q same = rw (same, is) (shown n received.counts filed e outcome)
-      answered (NoPlan f) outcome q same = rw same (not-shown outcome f refl)
+        not-shown : {l l' : Lists} {v : Value PlanCounts} → ReadPlanOutcome (take n m'.buffer) l l' v → (f : Refusal) → v ≡ refusal f
+            → ReceivePlanOutcome r p m m' l l' (refusal f) no_counts no_entries
+        unfolding refusal fault_number
+        not-shown (read_broken at b e) f q = rw (sym (refusal-injective (Entry at) f q)) (no_plan n received.counts filed at (read_broken at b e))
+        not-shown (read_short plan room e) f q =
+            rw (sym (refusal-injective (Plain SliceLength) f q)) (no_room n received.counts filed (read_short plan room e))
+        not-shown (read_shown _ _ _) f q = absurd (refusal-gives f _ (sym q))
 
-      -- the file is lent as the part of its buffer from 0 to n
-      pub file-read : {l l' : Lists} (read : PlanRead) → ReadPlanOutcome (take (n - 0) (drop 0 m'.buffer)) l l' (plan_value read) → (q : PlanReceived) → q ≡ answer_of received read
-          → ReceivePlanOutcome r p m m' l l' (ending_value q.received.ending) q.received.counts q.entries
-      file-read read outcome = let same : n - 0 ≡ n = omega arith in answered read (rw same at outcome)
+        module _ {l l' : Lists} (read : Result PlanCounts Refusal) (outcome : ReadPlanOutcome (take n m'.buffer) l l' (value_of read)) where
+          pub plan-refused : (f : Refusal) (end : Result PlanReceived Refusal) → read ≡ Err f → end ≡ Err f
+              → ReceivePlanOutcome r p m m' l l' (shown_value end) (shown_counts end) (shown_entries end)
+          unfolding value_of shown_value shown_counts shown_entries
+          plan-refused f end b same = rw same (not-shown (rw b at outcome) f refl)
+
+          pub plan-shown : (entries : PlanCounts) → read ≡ Ok entries
+              → let end : Result PlanReceived Refusal = Ok (record { received = received; entries = entries }) in
+              ReceivePlanOutcome r p m m' l l' (shown_value end) (shown_counts end) (shown_entries end)
+          unfolding value_of shown_value shown_counts shown_entries reception_of
+          plan-shown entries b = rw is (shown n received.counts filed entries (rw b at outcome))

@@ -1,5 +1,4 @@
--- What a reader of the crate `plan` must believe; and, in `Inner`, what its own functions promise each other.
+-- What a reader of the crate `plan` must believe.
 pub mod Calls
 pub mod Receiving
 pub mod Theorems
-pub mod Inner

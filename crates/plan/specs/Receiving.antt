@@ -1,16 +1,31 @@
 -- Receiving a plan (request P4): what the receiver answers and leaves comes first, and its file is then read as a plan.
-use Rattle.std.specs.Prelude.{◌≡◌, List, ◌≢◌, ℕ, take}
-use Rattle.answer.specs.Values.{Value, gives, refused, refused_at}
+use Rattle.std.specs.Prelude.{◌≡◌, List, ◌≢◌, ℕ, take, Result, Ok, Err}
+use Rattle.answer.specs.declared.Refusal.{Refusal}
+use Rattle.answer.specs.Values.{Value, gives, refused, refused_at, refusal}
 use Rattle.receiver.specs.declared.Counts.{Counts}
 use Rattle.receiver.specs.Gathering.{Reception, file, no_counts}
-use Rattle.receiver.specs.Receive.{Memory, ReceiveOutcome}
+use Rattle.receiver.specs.Receive.{reception_of, Memory, ReceiveOutcome}
 use Rattle.plan_form.specs.declared.PlanCounts.{PlanCounts}
 use Rattle.plan_form.specs.Form.{plan_counts, Lists}
+use Rattle.plan.specs.declared.PlanReceived.{PlanReceived}
 use Rattle.plan.specs.Calls.{ReadPlanOutcome}
 
 -- "all counts with it are 0"
 unfoldable pub no_entries : PlanCounts
 no_entries = plan_counts 0 0 0
+
+-- what `receive_plan` answers: the receiver's value and counts, and the entries of the plan that is shown
+unfoldable pub shown_value : Result PlanReceived Refusal → Value Reception
+shown_value (Ok q) = gives (reception_of q.received.ending)
+shown_value (Err f) = refusal f
+
+unfoldable pub shown_counts : Result PlanReceived Refusal → Counts
+shown_counts (Ok q) = q.received.counts
+shown_counts (Err f) = no_counts
+
+unfoldable pub shown_entries : Result PlanReceived Refusal → PlanCounts
+shown_entries (Ok q) = q.entries
+shown_entries (Err f) = no_entries
 
 -- `receive_plan`: the receiver's refusals and Left as they are; 18 "after 14; then 4". "With both the receiver's memory stands as File leaves it."
 pub data ReceivePlanOutcome (r : ℕ) (p : List ℕ) (m m' : Memory) (l l' : Lists) : Value Reception → Counts → PlanCounts → Type 0 where

@@ -1,31 +1,19 @@
 -- The sections of a file, judged: each law takes the count and the first entry as they were read, and the byte where they stand.
-use mathlib.Core.Path.{◌≡◌, ap, subst}
+use Rattle.std.specs.Prelude.{Ok, min}
+use mathlib.Core.Path.{◌≡◌, subst}
 use mathlib.Core.List.{List}
-use mathlib.Core.Logic.{◌⊎◌, ⊎_elim}
+use mathlib.Core.Logic.{◌⊎◌, inl, inr, ⊎_elim}
 use Prim.Native.Nat.{ℕ, ◌+◌, ◌-◌, ◌*◌, ◌/◌, ◌≤◌, ◌<◌}
 use native.Mathlib.Omega.{arith}
 use native.Mathlib.Decide.{dec_lt}
 use lib.ListN.{length}
-use Rattle.answer.specs.Values.{passes, checked}
-use Rattle.cursor.specs.declared.Cursor.{Cursor}
-use Rattle.cursor.specs.declared.CountRead.{CountRead}
-use Rattle.cursor.specs.declared.CountRead.TheVariants.{Count}
-use Rattle.cursor.specs.Steps.{word, count, count_value}
-use Rattle.cursor.proofs.Steps.{count-known}
-use Rattle.plan_form.specs.declared.PlanRead.TheVariants.{Counted}
+use Rattle.answer.specs.Values.{value_of}
+use Rattle.cursor.specs.Steps.{word}
+use Rattle.plan_form.specs.declared.sections.Section.{Section}
 use Rattle.plan_form.specs.Entries.{entries, ClosureRule, FibreRule, SpliceRule}
-use Rattle.plan_form.specs.Form.{SoundBefore, Broken, IsPlan, FormOutcome, formed, plan_counts, plan_with, closures_in, fibres_in, splices_in, plan_in, plan_value}
+use Rattle.plan_form.specs.Form.{SoundBefore, Broken, IsPlan, FormOutcome, formed, plan_counts, plan_with, closures_in, fibres_in, splices_in, plan_in}
 use Rattle.plan_form.specs.Inner.Checks.{First, FibresKept}
-use Rattle.plan_form.proofs.Judging.{closures-keep, fibres-fit, closures-broken, closures-passed, fibres-broken, fibres-passed, splices-broken, bytes-left-over, plan-formed}
-
--- a count that was read, and the byte behind it
-pub count-place : (f : List ℕ) (c : Cursor) (r : CountRead) → count_value r ≡ checked (count f c (λ n next. passes (n, next)))
-    → (n : ℕ) (d : Cursor) → r ≡ Count n d → (c.at + 4 ≤ length f) × (n ≡ word f c.at) × (d.at ≡ c.at + 4)
-count-place f c r e n d q = let (room, same, behind) = count-known f c r e n d q in (room, same, ap (λ (x : Cursor). x.at) behind)
-
--- how many entries are whole
-abbrev pub Least : ℕ → ℕ → ℕ → Type 0
-Least whole count room = (whole ≤ count) × (whole ≤ room) × ((whole ≡ count) ⊎ (whole ≡ room))
+use Rattle.plan_form.proofs.Judging.{fibre-count-cut, splice-count-cut, fibres-fit, closures-broken, closures-passed, fibres-broken, fibres-passed, splices-broken, bytes-left-over, plan-formed}
 
 module _ (f : List ℕ) where
   abbrev len : ℕ
@@ -38,10 +26,6 @@ module _ (f : List ℕ) where
     unfolding fibres_in
     fibres-counted n e = rw (eca, ec) at e
 
-    pub closures-keep-in : SoundBefore (plan_in f) len (4 + 2 * closures_in f) → (k : ℕ) → k < c → ClosureRule (entries f ca) k
-    unfolding plan_in plan_with
-    closures-keep-in before k l = rw eca (closures-keep (plan_in f) len before k (omega arith))
-
   module _ (fa n : ℕ) (efa : fa ≡ 8 + 2 * closures_in f) (en : n ≡ fibres_in f) where
     pub splices-counted : (s : ℕ) → s ≡ word f (fa + 4 * n) → s ≡ splices_in f
     unfolding splices_in
@@ -53,28 +37,28 @@ module _ (f : List ℕ) where
 
   -- ---- sections
 
-  module _ (at n whole first : ℕ) (ea : at ≡ 4) (en : n ≡ closures_in f) (room : 4 ≤ len) (least : Least whole n ((len - at) / 2))
+  module _ (at n whole first : ℕ) (ea : at ≡ 4) (en : n ≡ closures_in f) (room : 4 ≤ len) (least : whole ≡ min n ((len - at) / 2))
       (found : First (ClosureRule (entries f at)) whole first) where
     closures-cut : whole < closures_in f → len < 6 + 2 * whole
-    closures-cut l = ⊎_elim (λ (e : whole ≡ n). absurd (omega arith)) (λ (e : whole ≡ (len - at) / 2). omega arith) least.2
+    closures-cut l = omega arith
 
     pub closures-broken-in : first < n → Broken (plan_in f) len (4 + 2 * first)
     unfolding plan_in plan_with
     closures-broken-in l =
-        closures-broken (plan_in f) len whole first room (omega (arith, least.1)) (omega (arith, least.0)) closures-cut
+        closures-broken (plan_in f) len whole first room (omega arith) (omega arith) closures-cut
         (subst (λ (a : ℕ). First (ClosureRule (entries f a)) whole first) ea found) (omega arith)
 
     pub closures-passed-in : n ≤ first → SoundBefore (plan_in f) len (4 + 2 * closures_in f) × (4 + 2 * closures_in f ≤ len)
     unfolding plan_in plan_with
     closures-passed-in l =
-        closures-passed (plan_in f) len whole first room (omega (arith, least.1)) (omega (arith, least.0)) closures-cut
+        closures-passed (plan_in f) len whole first room (omega arith) (omega arith) closures-cut
         (subst (λ (a : ℕ). First (ClosureRule (entries f a)) whole first) ea found) (omega arith)
 
   module _ (before : SoundBefore (plan_in f) len (4 + 2 * closures_in f)) (ca c at n whole first : ℕ) (eca : ca ≡ 4) (ec : c ≡ closures_in f)
-      (ea : at ≡ 8 + 2 * closures_in f) (en : n ≡ fibres_in f) (room : 8 + 2 * closures_in f ≤ len) (least : Least whole n ((len - at) / 4))
+      (ea : at ≡ 8 + 2 * closures_in f) (en : n ≡ fibres_in f) (room : 8 + 2 * closures_in f ≤ len) (least : whole ≡ min n ((len - at) / 4))
       (found : First (FibreRule (entries f ca) c (entries f at)) whole first) where
     fibres-cut : whole < fibres_in f → len < 12 + 2 * closures_in f + 4 * whole
-    fibres-cut l = ⊎_elim (λ (e : whole ≡ n). absurd (omega arith)) (λ (e : whole ≡ (len - at) / 4). omega arith) least.2
+    fibres-cut l = omega arith
 
     fibres-found : First (FibreRule (entries f 4) (closures_in f) (entries f (8 + 2 * closures_in f))) whole first
     fibres-found = rw (eca, ec, ea) at found
@@ -82,18 +66,18 @@ module _ (f : List ℕ) where
     pub fibres-broken-in : first < n → Broken (plan_in f) len (8 + 2 * closures_in f + 4 * first)
     unfolding plan_in plan_with
     fibres-broken-in l =
-        fibres-broken (plan_in f) len before whole first (omega (arith, least.1)) (omega (arith, least.0)) fibres-cut fibres-found (omega arith)
+        fibres-broken (plan_in f) len before whole first (omega arith) (omega arith) fibres-cut fibres-found (omega arith)
 
     pub fibres-passed-in : n ≤ first → SoundBefore (plan_in f) len (8 + 2 * closures_in f + 4 * fibres_in f) × (8 + 2 * closures_in f + 4 * fibres_in f ≤ len)
     unfolding plan_in plan_with
     fibres-passed-in l =
-        fibres-passed (plan_in f) len before whole first (omega (arith, least.1)) (omega (arith, least.0)) fibres-cut fibres-found (omega arith)
+        fibres-passed (plan_in f) len before whole first (omega arith) (omega arith) fibres-cut fibres-found (omega arith)
 
   module _ (before : SoundBefore (plan_in f) len (8 + 2 * closures_in f + 4 * fibres_in f)) (fa n at s whole first : ℕ) (efa : fa ≡ 8 + 2 * closures_in f)
       (en : n ≡ fibres_in f) (ea : at ≡ 12 + 2 * closures_in f + 4 * fibres_in f) (es : s ≡ splices_in f) (room : 12 + 2 * closures_in f + 4 * fibres_in f ≤ len)
-      (least : Least whole s ((len - at) / 8)) (found : First (SpliceRule (entries f fa) n (entries f at)) whole first) where
+      (least : whole ≡ min s ((len - at) / 8)) (found : First (SpliceRule (entries f fa) n (entries f at)) whole first) where
     splices-cut : whole < splices_in f → len < 20 + 2 * closures_in f + 4 * fibres_in f + 8 * whole
-    splices-cut l = ⊎_elim (λ (e : whole ≡ s). absurd (omega arith)) (λ (e : whole ≡ (len - at) / 8). omega arith) least.2
+    splices-cut l = omega arith
 
     splices-found : First (SpliceRule (entries f (8 + 2 * closures_in f)) (fibres_in f) (entries f (12 + 2 * closures_in f + 4 * fibres_in f))) whole first
     splices-found = rw (efa, en, ea) at found
@@ -102,18 +86,109 @@ module _ (f : List ℕ) where
     unfolding plan_in plan_with
     splices-broken-in either =
         elim (dec_lt first s) [
-          | yes l ↦ splices-broken (plan_in f) len before whole first (omega (arith, least.1)) (omega (arith, least.0)) splices-cut splices-found (omega arith)
-          | no l ↦ bytes-left-over (plan_in f) len before whole first (omega (arith, least.1)) (omega (arith, least.0)) splices-cut splices-found (omega arith)
+          | yes l ↦ splices-broken (plan_in f) len before whole first (omega arith) (omega arith) splices-cut splices-found (omega arith)
+          | no l ↦ bytes-left-over (plan_in f) len before whole first (omega arith) (omega arith) splices-cut splices-found (omega arith)
               (⊎_elim (λ (m : first < s). absurd (omega arith)) (λ (m : at + 8 * first < len). omega arith) either)
         ]
 
     plan-in : s ≤ first → len ≤ at + 8 * first → IsPlan (plan_in f) len
     unfolding plan_in plan_with
     plan-in l m =
-        plan-formed (plan_in f) len before whole first (omega (arith, least.1)) (omega (arith, least.0)) splices-cut splices-found (omega arith) (omega arith)
+        plan-formed (plan_in f) len before whole first (omega arith) (omega arith) splices-cut splices-found (omega arith) (omega arith)
 
     -- the counts as they were read are the plan's
     pub plan-measured : (c : ℕ) → c ≡ closures_in f → s ≤ first → len ≤ at + 8 * first
-        → FormOutcome (plan_in f) len (plan_in f).counts (plan_value (Counted (plan_counts c n s)))
-    unfolding plan_value plan_in plan_with
+        → FormOutcome (plan_in f) len (plan_in f).counts (value_of (Ok (plan_counts c n s)))
+    unfolding value_of plan_in plan_with
     plan-measured c ec l m = rw (ec, en, es) (formed (plan-in l m))
+
+-- ---- the same for the sections as they were counted, each behind the one before
+
+-- a section whose count stands at a byte
+abbrev Counted : List ℕ → ℕ → Section → Type 0
+Counted f at s = (at + 4 ≤ length f) × (s.count ≡ word f at) × (s.at ≡ at + 4)
+
+-- its entries of so many bytes that are whole, and the bytes they stand in
+abbrev Whole : List ℕ → ℕ → Section → List ℕ → Section → Type 0
+Whole f bytes s g w = (g ≡ f) × (w.at ≡ s.at) × (w.count ≡ min s.count ((length f - s.at) / bytes))
+
+module _ (f : List ℕ) (c : Section) (cf : List ℕ) (cw : Section) (first : ℕ) (counted : Counted f 0 c) (whole : Whole f 2 c cf cw)
+    (found-whole : First (ClosureRule (entries cf cw.at)) cw.count first) where
+  found : First (ClosureRule (entries f cw.at)) cw.count first
+  found = rw whole.0 at found-whole
+
+  closures-count : c.count ≡ closures_in f
+  unfolding closures_in
+  closures-count = counted.1
+
+  pub closures-broken-at : first < c.count → Broken (plan_in f) (length f) (c.at + 2 * first)
+  closures-broken-at l =
+      let e : c.at ≡ 4 = omega (arith, counted) in
+      rw e (closures-broken-in f cw.at c.count cw.count first (omega (arith, counted, whole)) closures-count counted.0 (omega (arith, whole)) found l)
+
+  module _ (passed : c.count ≤ first) where
+    closures-before : SoundBefore (plan_in f) (length f) (4 + 2 * closures_in f)
+    closures-before =
+        (closures-passed-in f cw.at c.count cw.count first (omega (arith, counted, whole)) closures-count counted.0 (omega (arith, whole)) found passed).0
+
+    pub fibre-count-cut-at : length f < c.at + 2 * c.count + 4 → Broken (plan_in f) (length f) (c.at + 2 * c.count)
+    unfolding plan_in plan_with
+    fibre-count-cut-at short =
+        let e : c.at + 2 * c.count ≡ 4 + 2 * closures_in f = omega (arith, counted, closures-count) in
+        rw e (fibre-count-cut (plan_in f) (length f) closures-before (omega (arith, counted, closures-count)))
+
+    module _ (s : Section) (sf : List ℕ) (sw : Section) (second : ℕ) (counted' : Counted f (c.at + 2 * c.count) s) (whole' : Whole f 4 s sf sw)
+        (found-whole' : First (FibreRule (entries f c.at) c.count (entries sf sw.at)) sw.count second) where
+      found' : First (FibreRule (entries f c.at) c.count (entries f sw.at)) sw.count second
+      found' = rw whole'.0 at found-whole'
+
+      fibres-count : s.count ≡ fibres_in f
+      fibres-count = fibres-counted f c.at c.count (omega (arith, counted)) closures-count s.count counted'.1
+
+      fibres-place : s.at ≡ 8 + 2 * closures_in f
+      fibres-place = omega (arith, counted, closures-count, counted')
+
+      pub fibres-broken-at : second < s.count → Broken (plan_in f) (length f) (s.at + 4 * second)
+      fibres-broken-at l =
+          rw fibres-place
+          (fibres-broken-in f closures-before c.at c.count sw.at s.count sw.count second (omega (arith, counted)) closures-count
+          (omega (arith, whole', fibres-place)) fibres-count (omega (arith, counted', fibres-place)) (omega (arith, whole')) found' l)
+
+      module _ (passed' : s.count ≤ second) where
+        fibres-before : SoundBefore (plan_in f) (length f) (8 + 2 * closures_in f + 4 * fibres_in f)
+        fibres-before =
+            (fibres-passed-in f closures-before c.at c.count sw.at s.count sw.count second (omega (arith, counted)) closures-count
+            (omega (arith, whole', fibres-place)) fibres-count (omega (arith, counted', fibres-place)) (omega (arith, whole')) found' passed').0
+
+        pub fibres-kept-at : FibresKept (entries f s.at) s.count
+        fibres-kept-at = fibres-fit-in f s.at s.count fibres-place fibres-count fibres-before
+
+        pub splice-count-cut-at : length f < s.at + 4 * s.count + 4 → Broken (plan_in f) (length f) (s.at + 4 * s.count)
+        unfolding plan_in plan_with
+        splice-count-cut-at short =
+            let e : s.at + 4 * s.count ≡ 8 + 2 * closures_in f + 4 * fibres_in f = omega (arith, fibres-place, fibres-count) in
+            rw e (splice-count-cut (plan_in f) (length f) fibres-before (omega (arith, fibres-place, fibres-count)))
+
+        module _ (t : Section) (tf : List ℕ) (tw : Section) (third : ℕ) (counted'' : Counted f (s.at + 4 * s.count) t) (whole'' : Whole f 8 t tf tw)
+            (found-whole'' : First (SpliceRule (entries f s.at) s.count (entries tf tw.at)) tw.count third) where
+          found'' : First (SpliceRule (entries f s.at) s.count (entries f tw.at)) tw.count third
+          found'' = rw whole''.0 at found-whole''
+
+          splices-count : t.count ≡ splices_in f
+          splices-count = splices-counted f s.at s.count fibres-place fibres-count t.count counted''.1
+
+          splices-place : t.at ≡ 12 + 2 * closures_in f + 4 * fibres_in f
+          splices-place = omega (arith, fibres-place, fibres-count, counted'')
+
+          pub splices-broken-at : (third < t.count) ⊎ (t.at + 8 * third < length f) → Broken (plan_in f) (length f) (t.at + 8 * third)
+          splices-broken-at either =
+              rw splices-place
+              (splices-broken-in f fibres-before s.at s.count tw.at t.count tw.count third fibres-place fibres-count (omega (arith, whole'', splices-place)) splices-count
+              (omega (arith, counted'', splices-place)) (omega (arith, whole'')) found''
+              (⊎_elim (λ (l : third < t.count). inl l) (λ (m : t.at + 8 * third < length f). inr (omega (arith, whole''))) either))
+
+          pub plan-measured-at : t.count ≤ third → length f ≤ t.at + 8 * third
+              → FormOutcome (plan_in f) (length f) (plan_in f).counts (value_of (Ok (plan_counts c.count s.count t.count)))
+          plan-measured-at l m =
+              plan-measured f fibres-before s.at s.count tw.at t.count tw.count third fibres-place fibres-count (omega (arith, whole'', splices-place)) splices-count
+              (omega (arith, counted'', splices-place)) (omega (arith, whole'')) found'' c.count closures-count l (omega (arith, whole''))

@@ -35,13 +35,6 @@ module _ (cs fs ss : List ℕ) where
   -- ---- fibres
 
   module _ (c : ℕ) (ec : c ≡ length cs / 2) (before : Before (4 + 2 * c)) where
-    pub list-closures-keep : (k : ℕ) → k < c → ClosureRule (entries cs 0) k
-    unfolding plan_of counts_of
-    list-closures-keep k l = closures-keep (plan_of (lists cs fs ss)) (plan_end (counts_of (lists cs fs ss))) (rw ec at before) k (omega arith)
-
-    pub list-closures-few : Bytes cs → c ≤ 65536
-    list-closures-few small = closures-few (entries cs 0) small c list-closures-keep
-
     module _ (n first : ℕ) (en : n ≡ length fs / 4) (found : First (FibreRule (entries cs 0) c (entries fs 0)) n first) where
       pub list-fibres-broken : first < n → BrokenAt (8 + 2 * c + 4 * first)
       unfolding plan_of counts_of plan_end

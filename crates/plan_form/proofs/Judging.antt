@@ -1,17 +1,15 @@
 -- What the first entry that breaks its rule, or is cut, makes of a section; and of the plan.
-use mathlib.Core.Path.{◌≡◌, subst}
+use Rattle.answer.specs.declared.Refusal.{Refusal}
+use Rattle.std.specs.Prelude.{Result, Err, IsErrAnd}
+use Rattle.std.proofs.lemmas.Result.{err_from_is_err_and}
+use mathlib.Core.Path.{◌≡◌, subst, ◌∙◌}
 use Prim.Native.Nat.{ℕ, ◌+◌, ◌*◌, ◌≤◌, ◌<◌}
 use native.Mathlib.Omega.{arith}
 use native.Mathlib.Decide.{dec_lt}
-use Rattle.answer.specs.declared.Answer.{Answer}
-use Rattle.answer.specs.declared.Answer.TheVariants.{Refused as AnswerRefused}
 use Rattle.answer.specs.declared.Refusal.TheVariants.{Entry}
-use Rattle.answer.specs.Values.{refusal, answer_value}
-use Rattle.plan_form.specs.declared.PlanRead.{PlanRead}
-use Rattle.plan_form.specs.declared.PlanRead.TheVariants.{Refused}
-use Rattle.plan_form.specs.declared.PlanCounts.{PlanCounts}
+use Rattle.answer.specs.Values.{refusal, value_of}
 use Rattle.plan_form.specs.Entries.{ClosureRule, FibreRule, SpliceRule}
-use Rattle.plan_form.specs.Form.{Plan, Part, closure_count, closure, fibre_count, fibre, splice_count, splice, start, size, plan_end, Has, Rule, Sound, SoundBefore, Broken, part_broken, left_over, IsPlan, FormOutcome, broken, plan_value}
+use Rattle.plan_form.specs.Form.{Plan, Part, closure_count, closure, fibre_count, fibre, splice_count, splice, start, size, plan_end, Has, Rule, Sound, SoundBefore, Broken, part_broken, left_over, IsPlan, FormOutcome, broken}
 use Rattle.plan_form.specs.Inner.Checks.{First, FibresKept}
 use Rattle.plan_form.proofs.Soundness.{closures-sound, fibres-sound, splices-sound, all_sound}
 use Rattle.plan_form.proofs.Ascending.{fibres-kept}
@@ -132,12 +130,15 @@ module _ (P : Plan) (len : ℕ) where
     unfolding plan_end
     plan-formed l m = record { sound = every-part l; ends = omega (arith, found.bound) }
 
-  -- ---- the answers
+  -- ---- the answer
 
-  pub measure-broken : (r : PlanRead) (a : PlanCounts) (at at' : ℕ) → r ≡ Refused (Entry at) → at ≡ at' → Broken P len at' → FormOutcome P len a (plan_value r)
-  unfolding plan_value refusal
-  measure-broken r a at at' e same b = rw e (broken at (rw same b))
+  pub refused-broken : {A : Type 0} (f : Refusal) (a : A) (at at' : ℕ) → f ≡ Entry at → at ≡ at' → Broken P len at' → FormOutcome P len a (value_of (Err f))
+  unfolding value_of refusal
+  refused-broken f a at at' e same b = rw e (broken at (rw same b))
 
-  pub check-broken : (r : Answer) (at at' : ℕ) → r ≡ AnswerRefused (Entry at) → at ≡ at' → Broken P len at' → FormOutcome P len tt (answer_value r)
-  unfolding answer_value refusal
-  check-broken r at at' e same b = rw e (broken at (rw same b))
+  -- the refusal that a `?` hands on
+  pub handed-broken : {A : Type 0} (r : Result A Refusal) (f : Refusal) (a : A) (at at' : ℕ) → IsErrAnd r (λ g. g ≡ f) → f ≡ Entry at → at ≡ at' → Broken P len at'
+      → FormOutcome P len a (value_of r)
+  handed-broken r f a at at' handed e same b =
+      let (g, is, gf) = err_from_is_err_and r handed in
+      rw is (refused-broken g a at at' (gf ∙ e) same b)

@@ -1,10 +1,8 @@
 -- The form of a splice plan (request P4): its parts in the order of the file, the first byte that breaks the form, a plan's bytes.
 use Rattle.std.specs.Prelude.{◌≡◌, List, ◌++◌, ℕ, ◌+◌, ◌*◌, ◌/◌, ◌≤◌, ◌<◌, length, take, drop}
-use Rattle.answer.specs.Values.{Value, gives, refused_at, refusal}
+use Rattle.answer.specs.Values.{Value, gives, refused_at}
 use Rattle.cursor.specs.Steps.{word, word_bytes}
 use Rattle.plan_form.specs.declared.PlanCounts.{PlanCounts}
-use Rattle.plan_form.specs.declared.PlanRead.{PlanRead}
-use Rattle.plan_form.specs.declared.PlanRead.TheVariants.{Counted, Refused}
 use Rattle.plan_form.specs.Entries.{Entries, entries, ClosureRule, FibreRule, SpliceRule}
 
 -- A plan as it is read: where the entries of each section stand, and how many they are.
@@ -118,11 +116,6 @@ splices_in f = word f (8 + 2 * closures_in f + 4 * fibres_in f)
 
 unfoldable pub plan_in : List ℕ → Plan
 plan_in f = plan_with f (closures_in f) (fibres_in f) (splices_in f)
-
--- what a call answers that reads a plan
-unfoldable pub plan_value : PlanRead → Value PlanCounts
-plan_value (Counted n) = gives n
-plan_value (Refused f) = refusal f
 
 -- ---- a plan in three lists
 

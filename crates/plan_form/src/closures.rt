@@ -1,25 +1,21 @@
 // The rule of closures: strictly ascending numbers.
 ghost use Rattle.plan_form.specs.Entries.{entries, ClosureRule};
-ghost use Rattle.plan_form.specs.Inner.Checks.{First, Inside};
+ghost use Rattle.plan_form.specs.Inner.Checks.{First};
 
 use crate::numbers::half;
-use crate::sections::Section;
+use crate::sections::Entries;
 
 // The first closure of the section that breaks its rule, or the section's count.
-pub(crate) fn first_broken(bytes: &[u8], s: Section) -> usize
-    requires { Inside 2 bytes.now s }
-    ensures { First (ClosureRule (entries bytes.now s.at)) s.count result }
+pub(crate) fn first_broken(closures: &Entries<2>) -> usize
+    ensures { let c = closures.now in First (ClosureRule (entries c.bytes.now c.s.at)) c.s.count result }
 {
-    let count = s.count;
     let mut least = 0;
-    let mut k = 0;
-    while k < count {
-        let number = half(bytes, s.at + 2 * k);
+    for k in 0..closures.s.count {
+        let number = half(closures.bytes, closures.s.at + 2 * k);
         if number < least {
             return k;
         }
         least = number + 1;
-        k += 1;
     }
-    count
+    closures.s.count
 }

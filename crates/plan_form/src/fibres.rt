@@ -2,75 +2,60 @@
 ghost use Rattle.std.specs.Prelude.{ℕ, ◌+◌, ◌≤◌, ◌<◌};
 ghost use Rattle.span.specs.Decision.{Decides};
 ghost use Rattle.plan_form.specs.Entries.{entries, closure_at, ClosureRule, Listed, FibreRule};
-ghost use Rattle.plan_form.specs.Inner.Checks.{First, Inside, Walked};
+ghost use Rattle.plan_form.specs.Inner.Checks.{First, Walked};
 
 use crate::numbers::half;
-use crate::sections::Section;
+use crate::sections::Entries;
 
 // The first fibre of the section that breaks its rule, or the section's count. The closures are walked through once: those before `q` are
 // below every fibre's that is still to come.
-pub(crate) fn first_broken(closures: &[u8], fibres: &[u8], c: Section, s: Section) -> usize
-    requires { Inside 2 closures.now c × Inside 4 fibres.now s × ((k : ℕ) → k < c.count → ClosureRule (entries closures.now c.at) k) }
-    ensures { First (FibreRule (entries closures.now c.at) c.count (entries fibres.now s.at)) s.count result }
+pub(crate) fn first_broken(closures: &Entries<2>, fibres: &Entries<4>) -> usize
+    requires { let c = closures.now in (k : ℕ) → k < c.s.count → ClosureRule (entries c.bytes.now c.s.at) k }
+    ensures { let c = closures.now in let f = fibres.now in First (FibreRule (entries c.bytes.now c.s.at) c.s.count (entries f.bytes.now f.s.at)) f.s.count result }
 {
-    let count = s.count;
     let mut least = 0;
     let mut q = 0;
-    let mut k = 0;
-    while k < count {
-        let closure = half(fibres, s.at + 4 * k);
-        let number = half(fibres, s.at + 4 * k + 2);
+    for k in 0..fibres.s.count {
+        let closure = half(fibres.bytes, fibres.s.at + 4 * k);
+        let number = half(fibres.bytes, fibres.s.at + 4 * k + 2);
         let pair = closure * 65536 + number;
         if !in_order(number, pair, least) {
             return k;
         }
-        q = advance(closures, c, q, closure);
-        if !listed(closures, c, q, closure) {
+        q = advance(closures, q, closure);
+        if !listed(closures, q, closure) {
             return k;
         }
         least = pair + 1;
-        k += 1;
     }
-    count
+    fibres.s.count
 }
 
 // Whether a fibre's number is 1 to 288, and its pair not below the least that may follow.
 fn in_order(number: usize, pair: usize, least: usize) -> bool
     ensures { Decides ((1 ≤ number) × (number ≤ 288) × (least ≤ pair)) result }
 {
-    if number < 1 {
-        return false;
-    }
-    if 288 < number {
-        return false;
-    }
-    least <= pair
+    1 <= number && number <= 288 && least <= pair
 }
 
 // The first closure from q on whose number is not below the one sought.
-fn advance(closures: &[u8], c: Section, q: usize, sought: usize) -> usize
-    requires { Inside 2 closures.now c × Walked (entries closures.now c.at) c.count sought q }
-    ensures { Walked (entries closures.now c.at) c.count sought result × ((result < c.count) → sought ≤ closure_at (entries closures.now c.at) result) }
+fn advance(closures: &Entries<2>, q: usize, sought: usize) -> usize
+    requires { let c = closures.now in Walked (entries c.bytes.now c.s.at) c.s.count sought q }
+    ensures { let c = closures.now in Walked (entries c.bytes.now c.s.at) c.s.count sought result × ((result < c.s.count) → sought ≤ closure_at (entries c.bytes.now c.s.at) result) }
 {
-    let count = c.count;
-    let mut r = q;
-    while r < count {
-        if sought <= half(closures, c.at + 2 * r) {
+    for r in q..closures.s.count {
+        if sought <= half(closures.bytes, closures.s.at + 2 * r) {
             return r;
         }
-        r += 1;
     }
-    r
+    closures.s.count
 }
 
 // Whether the closure sought is the one at q.
-fn listed(closures: &[u8], c: Section, q: usize, sought: usize) -> bool
-    requires { Inside 2 closures.now c × Walked (entries closures.now c.at) c.count sought q × ((q < c.count) → sought ≤ closure_at (entries closures.now c.at) q)
-        × ((k : ℕ) → k < c.count → ClosureRule (entries closures.now c.at) k) }
-    ensures { Decides (Listed (entries closures.now c.at) c.count sought) result }
+fn listed(closures: &Entries<2>, q: usize, sought: usize) -> bool
+    requires { let c = closures.now in Walked (entries c.bytes.now c.s.at) c.s.count sought q × ((q < c.s.count) → sought ≤ closure_at (entries c.bytes.now c.s.at) q)
+        × ((k : ℕ) → k < c.s.count → ClosureRule (entries c.bytes.now c.s.at) k) }
+    ensures { let c = closures.now in Decides (Listed (entries c.bytes.now c.s.at) c.s.count sought) result }
 {
-    if c.count <= q {
-        return false;
-    }
-    half(closures, c.at + 2 * q) == sought
+    q < closures.s.count && half(closures.bytes, closures.s.at + 2 * q) == sought
 }

@@ -9,11 +9,11 @@ mod reading;
 mod sections;
 mod splices;
 
-ghost use Rattle.answer.specs.Values.{answer_value};
 ghost use Rattle.std.specs.Prelude.{length};
-ghost use Rattle.plan_form.specs.Form.{FormOutcome, plan_end, plan_in, plan_value, lists, counts_of, plan_of};
+ghost use Rattle.answer.specs.Values.{value_of};
+ghost use Rattle.plan_form.specs.Form.{FormOutcome, plan_end, plan_in, lists, counts_of, plan_of};
 
-use answer::{Answer, Refusal};
+use answer::Refusal;
 
 // How many entries each section of a plan has.
 #[derive(Clone, Copy)]
@@ -23,24 +23,17 @@ pub struct PlanCounts {
     pub splices: usize,
 }
 
-// The counts of a plan, or why there is none.
-#[derive(Clone, Copy)]
-pub enum PlanRead {
-    Counted(PlanCounts),
-    Refused(Refusal),
-}
-
 // The counts of the plan that a file holds, or 18.
-pub fn measure_plan(file: &[u8]) -> PlanRead
-    ensures { FormOutcome (plan_in file.now) (length file.now) (plan_in file.now).counts (plan_value result) }
+pub fn measure_plan(file: &[u8]) -> Result<PlanCounts, Refusal>
+    ensures { FormOutcome (plan_in file.now) (length file.now) (plan_in file.now).counts (value_of result) }
 {
     reading::measure(file)
 }
 
 // Whether three lists are a plan, or 18 with the byte at which the entry would stand in its file. Bytes behind the last whole entry of a list
 // have no part in it.
-pub fn check_lists(closures: &[u8], fibres: &[u8], splices: &[u8]) -> Answer
-    ensures { FormOutcome (plan_of (lists closures.now fibres.now splices.now)) (plan_end (counts_of (lists closures.now fibres.now splices.now))) tt (answer_value result) }
+pub fn check_lists(closures: &[u8], fibres: &[u8], splices: &[u8]) -> Result<(), Refusal>
+    ensures { FormOutcome (plan_of (lists closures.now fibres.now splices.now)) (plan_end (counts_of (lists closures.now fibres.now splices.now))) tt (value_of result) }
 {
     lists::check(closures, fibres, splices)
 }

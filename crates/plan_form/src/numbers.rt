@@ -3,14 +3,12 @@ ghost use Rattle.std.specs.Prelude.{◌≡◌, ◌+◌, ◌≤◌, ◌<◌, leng
 ghost use Rattle.cursor.specs.Steps.{word};
 ghost use Rattle.plan_form.specs.Entries.{half};
 
-use cursor::wide;
-
 // The number in two bytes at a place.
 pub(crate) fn half(bytes: &[u8], at: usize) -> usize
     requires { at + 2 ≤ length bytes.now }
     ensures { (result ≡ half bytes.now at) × (result < 65536) }
 {
-    wide(bytes[at]) + 256 * wide(bytes[at + 1])
+    u16::from_le_bytes([bytes[at], bytes[at + 1]]) as usize
 }
 
 // The number in four bytes at a place.
@@ -18,5 +16,5 @@ pub(crate) fn word(bytes: &[u8], at: usize) -> usize
     requires { at + 4 ≤ length bytes.now }
     ensures { (result ≡ word bytes.now at) × (result < 4294967296) }
 {
-    half(bytes, at) + 65536 * half(bytes, at + 2)
+    u32::from_le_bytes([bytes[at], bytes[at + 1], bytes[at + 2], bytes[at + 3]]) as usize
 }

@@ -1,78 +1,91 @@
 // The rules of splices: two fibres of one closure, the first lower, first indexes ascending, each fibre in at most one splice.
-ghost use Rattle.std.specs.Prelude.{◌≡◌, ◌⊎◌, ◌+◌, ◌<◌, length, set};
+ghost use Rattle.std.specs.Prelude.{◌≡◌, ◌⊎◌, ◌+◌, ◌<◌, set};
 ghost use Rattle.span.specs.Decision.{Decides};
 ghost use Rattle.plan_form.specs.Entries.{entries, closure_of, fibre_number, SpliceRule};
-ghost use Rattle.plan_form.specs.Inner.Checks.{First, Inside, FibresKept, InRank, Marked};
+ghost use Rattle.plan_form.specs.Inner.Checks.{First, FibresKept, InRank, Marked};
 
 use crate::numbers::{half, word};
-use crate::sections::Section;
+use crate::sections::Entries;
+
+// Fibres that keep their rules, and the marks of those that are the second of a splice.
+#[derive(Drop)]
+struct Marks<'a> {
+    fibres: Entries<'a, 4>,
+    marks: [usize; 289],
+    ghost kept: { FibresKept (entries fibres.bytes.now fibres.s.at) fibres.s.count },
+}
 
 // The first splice of the section that breaks its rule, or the section's count. First indexes ascend and a second is above its first, so only an
 // earlier second can clash. Each leaves the mark of its closure at its fibre's number; fibres of one closure have different numbers, and
 // other closures have other marks, so that no mark is ever cleared.
-pub(crate) fn first_broken(fibres: &[u8], splices: &[u8], f: Section, s: Section) -> usize
-    requires { Inside 4 fibres.now f × Inside 8 splices.now s × FibresKept (entries fibres.now f.at) f.count }
-    ensures { First (SpliceRule (entries fibres.now f.at) f.count (entries splices.now s.at)) s.count result }
+pub(crate) fn first_broken(fibres: &Entries<4>, splices: &Entries<8>) -> usize
+    requires { let f = fibres.now in FibresKept (entries f.bytes.now f.s.at) f.s.count }
+    ensures { let f = fibres.now in let s = splices.now in First (SpliceRule (entries f.bytes.now f.s.at) f.s.count (entries s.bytes.now s.s.at)) s.s.count result }
 {
-    let count = s.count;
-    let mut marks = [0usize; 289];
+    let mut marked = Marks {
+        fibres: *fibres,
+        marks: [0; 289],
+    };
     let mut above = 0;
-    let mut k = 0;
-    while k < count {
-        let a = word(splices, s.at + 8 * k);
-        let b = word(splices, s.at + 8 * k + 4);
-        if !in_rank(fibres, f, above, a, b) {
+    for k in 0..splices.s.count {
+        let a = word(splices.bytes, splices.s.at + 8 * k);
+        let b = word(splices.bytes, splices.s.at + 8 * k + 4);
+        if !in_rank(fibres, above, a, b) || marked.either(a, b) {
             return k;
         }
-        if either_marked(fibres, &marks, f, a, b) {
-            return k;
-        }
-        mark(fibres, &mut marks, f, b);
+        marked.mark(b);
         above = a + 1;
-        k += 1;
     }
-    count
+    splices.s.count
 }
 
 // Whether a and b are fibres of one closure, a the lower one and not below `above`.
-fn in_rank(fibres: &[u8], f: Section, above: usize, a: usize, b: usize) -> bool
-    requires { Inside 4 fibres.now f }
-    ensures { Decides (InRank (entries fibres.now f.at) f.count above a b) result }
+fn in_rank(fibres: &Entries<4>, above: usize, a: usize, b: usize) -> bool
+    ensures { let f = fibres.now in Decides (InRank (entries f.bytes.now f.s.at) f.s.count above a b) result }
 {
-    if a < above {
-        return false;
-    }
-    if b <= a {
-        return false;
-    }
-    if f.count <= b {
-        return false;
-    }
-    half(fibres, f.at + 4 * a) == half(fibres, f.at + 4 * b)
+    let count = fibres.s.count;
+    above <= a && a < b && b < count && closure(fibres, a) == closure(fibres, b)
 }
 
-// Whether one of two fibres bears the mark of its closure.
-fn either_marked(fibres: &[u8], marks: &[usize; 289], f: Section, a: usize, b: usize) -> bool
-    requires { Inside 4 fibres.now f × FibresKept (entries fibres.now f.at) f.count × (a < f.count) × (b < f.count) × (length marks.now ≡ 289) }
-    ensures { Decides (Marked (entries fibres.now f.at) marks.now a ⊎ Marked (entries fibres.now f.at) marks.now b) result }
+// The closure of fibre x.
+fn closure(fibres: &Entries<4>, x: usize) -> usize
+    requires { x < fibres.now.s.count }
+    ensures { let f = fibres.now in (result ≡ closure_of (entries f.bytes.now f.s.at) x) × (result < 65536) }
 {
-    marked(fibres, marks, f, a) || marked(fibres, marks, f, b)
+    half(fibres.bytes, fibres.s.at + 4 * x)
 }
 
-// Whether a fibre bears the mark of its closure.
-fn marked(fibres: &[u8], marks: &[usize; 289], f: Section, x: usize) -> bool
-    requires { Inside 4 fibres.now f × FibresKept (entries fibres.now f.at) f.count × (x < f.count) × (length marks.now ≡ 289) }
-    ensures { Decides (Marked (entries fibres.now f.at) marks.now x) result }
+// The number of fibre x.
+fn number(fibres: &Entries<4>, x: usize) -> usize
+    requires { x < fibres.now.s.count }
+    ensures { let f = fibres.now in result ≡ fibre_number (entries f.bytes.now f.s.at) x }
 {
-    let at = f.at + 4 * x;
-    marks[half(fibres, at + 2)] == half(fibres, at) + 1
+    half(fibres.bytes, fibres.s.at + 4 * x + 2)
 }
 
-// Gives a fibre the mark of its closure.
-fn mark(fibres: &[u8], marks: &mut [usize; 289], f: Section, x: usize)
-    requires { Inside 4 fibres.now f × FibresKept (entries fibres.now f.at) f.count × (x < f.count) × (length marks.old ≡ 289) }
-    ensures { marks.new ≡ set marks.old (fibre_number (entries fibres.now f.at) x) (closure_of (entries fibres.now f.at) x + 1) }
-{
-    let at = f.at + 4 * x;
-    marks[half(fibres, at + 2)] = half(fibres, at) + 1;
+impl Marks<'_> {
+    // Whether one of two fibres bears the mark of its closure.
+    fn either(&self, a: usize, b: usize) -> bool
+        requires { (a < self.now.fibres.s.count) × (b < self.now.fibres.s.count) }
+        ensures { let f = self.now.fibres in Decides (Marked (entries f.bytes.now f.s.at) self.now.marks a ⊎ Marked (entries f.bytes.now f.s.at) self.now.marks b) result }
+    {
+        self.marked(a) || self.marked(b)
+    }
+
+    // Whether a fibre bears the mark of its closure.
+    fn marked(&self, x: usize) -> bool
+        requires { x < self.now.fibres.s.count }
+        ensures { let f = self.now.fibres in Decides (Marked (entries f.bytes.now f.s.at) self.now.marks x) result }
+    {
+        self.marks[number(&self.fibres, x)] == closure(&self.fibres, x) + 1
+    }
+
+    // Gives a fibre the mark of its closure.
+    fn mark(&mut self, x: usize)
+        requires { x < self.old.fibres.s.count }
+        ensures { let f = self.old.fibres in (self.new.fibres ≡ f)
+            × (self.new.marks ≡ set self.old.marks (fibre_number (entries f.bytes.now f.s.at) x) (closure_of (entries f.bytes.now f.s.at) x + 1)) }
+    {
+        self.marks[number(&self.fibres, x)] = closure(&self.fibres, x) + 1;
+    }
 }

@@ -2,7 +2,7 @@
 use mathlib.Core.Path.{◌≡◌, refl}
 use mathlib.Core.Bool.{Bool, true, false, cond}
 use mathlib.Core.List.{List, [], ◌∷◌, ◌++◌}
-use Prim.Native.Nat.{ℕ, zero, suc, ◌+◌, ◌-◌, ◌/◌, ◌%◌, ◌^◌, ◌≤◌, ◌<◌}
+use Prim.Native.Nat.{ℕ, zero, suc, ◌+◌, ◌-◌, ◌*◌, ◌/◌, ◌%◌, ◌^◌, ◌≤◌, ◌<◌}
 use native.Mathlib.Nat.{mod-eq_of_lt, pow-suc, pow-le-pow_right}
 use native.Mathlib.Omega.{arith}
 use lib.Dec.{ltb}
@@ -54,6 +54,25 @@ digits_decimal (suc k) n h f =
     let e : suc k - 1 ≡ k = omega arith in
     let large : 1 < suc k → 10 ^ k ≤ n = λ (l : 1 < suc k). rw e at (f.2 l) in
     digits-decimal_in 20 k n (places k n h large) f.1 large
+
+-- how many digits a number has
+length-digits : (most k n : ℕ) → k < most → n < 10 ^ suc k → (1 < suc k → 10 ^ k ≤ n) → length (decimal_in most n) ≡ suc k
+unfolding decimal_in
+length-digits zero k n h small large = elim h [ ]
+length-digits (suc most) zero n h small large = rw (lt-ltb n 10 small)
+length-digits (suc most) (suc k) n h small large =
+    let high : 10 ^ suc k ≤ n = large (omega arith) in
+    let rest : length (decimal_in most (n / 10)) ≡ suc k
+    = length-digits most k (n / 10) (omega arith) (omega (arith, pow-suc 10 (suc k))) (λ (l : 1 < suc k). omega (arith, pow-suc 10 k)) in
+    rw (le-ltb n 10 (omega (arith, ten-le-pow k))) (omega (arith, rest, length-append (decimal_in most (n / 10)) ((48 + n % 10) ∷ [])))
+
+pub decimal-length : (k n : ℕ) → k < 20 → 10 ^ k ≤ n → n < 10 * 10 ^ k → length (decimal n) ≡ k + 1
+unfolding decimal
+decimal-length k n few low high = omega (arith, length-digits 20 k n few (omega (arith, pow-suc 10 k)) (λ (l : 1 < suc k). low))
+
+pub zero-length : length (decimal 0) ≡ 1
+unfolding decimal
+zero-length = length-digits 20 0 0 (omega arith) (omega arith) (λ (l : 1 < 1). absurd (omega arith))
 
 -- a number has at most so many digits
 length-cond : (t : Bool) (x y : List ℕ) (n : ℕ) → length x ≤ n → length y ≤ n → length (cond t x y) ≤ n

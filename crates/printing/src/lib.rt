@@ -1,14 +1,15 @@
 // What the programs print: characters, decimal numbers and hexadecimal bytes, appended to a lent buffer.
 #![tactic(auto)]
 
-ghost use Rattle.std.specs.Prelude.{◌≡◌, ◌≤◌, min};
+ghost use Rattle.std.specs.Prelude.{◌≡◌, ◌≤◌};
 ghost use Rattle.printing.specs.Text.{decimal, hex_byte, numbered, triple, number_line, shape_line, refused_line};
 ghost use Rattle.printing.specs.Append.{Appended};
 
 // The bytes that an input, a cube and a written pack may have in the programs.
 pub const LIMIT: usize = 65536;
 
-// Puts bytes behind the first `at` of the buffer, as many as it has room for, and answers where they end.
+// Puts bytes behind the first `at` of the buffer, as many as it has room for, and answers where they end. The buffer and the place stay two
+// parameters of every function here: callers keep the place alone between calls, and what each promises names both.
 pub fn append(out: &mut [u8], at: usize, bytes: &[u8]) -> usize
     ensures { Appended out.old at bytes.now out.new result }
 {
@@ -16,13 +17,10 @@ pub fn append(out: &mut [u8], at: usize, bytes: &[u8]) -> usize
     if room < at {
         return room;
     }
-    let count = least(bytes.len(), room - at);
-    let mut i = 0;
-    while i < count {
-        out[at + i] = bytes[i];
-        i += 1;
-    }
-    at + count
+    let count = bytes.len().min(room - at);
+    let end = at + count;
+    out[at..end].copy_from_slice(&bytes[..count]);
+    end
 }
 
 // The decimal digits of a number, without leading zeros.
@@ -34,7 +32,7 @@ fn append_decimal(out: &mut [u8], at: usize, n: u64) -> usize
     append(out, at, &digits[..k])
 }
 
-// The two lower-case hexadecimal digits of a byte.
+// The two lower-case hexadecimal digits of a byte. `io::hex` puts those of a number into 16 places, and would be no plainer.
 pub fn hex_digits(b: u8) -> [u8; 2]
     ensures { result ≡ hex_byte b }
 {
@@ -93,11 +91,4 @@ fn hex_digit(d: u8) -> u8
     ensures { result ≡ Rattle.printing.specs.Text.hex_digit d }
 {
     if d < 10 { b'0' + d } else { b'a' + (d - 10) }
-}
-
-// The smaller of two numbers.
-pub fn least(a: usize, b: usize) -> usize
-    ensures { result ≡ min a b }
-{
-    if a < b { a } else { b }
 }

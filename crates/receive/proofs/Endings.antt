@@ -1,9 +1,13 @@
 -- How an input ends: from the receiver's answer to the outcome that is printed, and the memory that the outcome needs.
+use Rattle.std.specs.Prelude.{Result, Err}
+use Rattle.std.proofs.Props.{props}
 use mathlib.Core.Path.{◌≡◌, refl, ap, ◌∙◌}
 use mathlib.Core.Bool.{Bool, true, false, cond}
 use mathlib.Core.List.{List, ◌++◌}
+use mathlib.Core.Logic.{∥∥₁_elim}
 use Prim.Native.Nat.{ℕ, ◌-◌, ◌*◌, ◌≤◌, ◌<◌}
 use native.Mathlib.Nat.{one-mul, mul-le-mul_right}
+use native.Mathlib.Bridge.{le_prop}
 use native.Mathlib.Omega.{arith}
 use lib.Dec.{eqb}
 use lib.ListN.{length, take, drop}
@@ -21,12 +25,13 @@ use Rattle.pack.specs.declared.Section.{Section}
 use Rattle.pack.specs.Reading.{air_of}
 use Rattle.pack.proofs.Sound.{HeaderSound, air-sound, capacity-le-cube}
 use Rattle.receiver.specs.declared.Counts.{Counts}
+use Rattle.receiver.specs.declared.Received.{Received}
 use Rattle.receiver.specs.declared.Ending.{Ending}
-use Rattle.receiver.specs.declared.Ending.TheVariants.{File, Left, Refused as Stopped}
+use Rattle.receiver.specs.declared.Ending.TheVariants.{File, Left}
 use Rattle.receiver.specs.Gathering.{Reception, file, left}
 use Rattle.receiver.specs.Gathering.{unfit, index, contradiction, some_left}
 use Rattle.receiver.specs.Opening.{held}
-use Rattle.receiver.specs.Receive.{Memory, ending_value, lent, ReceiveOutcome, unopened, bad_file, opened}
+use Rattle.receiver.specs.Receive.{Memory, reception_of, received_value, received_counts, lent, ReceiveOutcome, unopened, bad_file, opened}
 use Rattle.receiver.proofs.Outcomes.{accepted-ready}
 use Rattle.receive.specs.declared.receiving.Report.{Report}
 use Rattle.receive.specs.declared.receiving.Outcome.{Outcome}
@@ -44,20 +49,22 @@ ended-number sh k (Packet f i) = refl
 ended-number sh k (Line n) = refl
 ended-number sh k (Entry n) = refl
 
-module _ (sh : Shape) (k : Counts) (e : Ending) where
-  pub ended-refused : (f : Refusal) (n : ℕ) → e ≡ Stopped f → n ≡ number_of {A = Unit} (refusal f) → Refused n ≡ ended sh k (ending_value e)
-  unfolding ending_value
-  ended-refused f n q m = rw q (ap Refused m ∙ ended-number sh k f)
+module _ (sh : Shape) where
+  pub ended-refused : (a : Result Received Refusal) (f : Refusal) (n : ℕ) → a ≡ Err f → n ≡ number_of {A = Unit} (refusal f)
+      → Refused n ≡ ended sh (received_counts a) (received_value a)
+  unfolding received_value
+  ended-refused a f n q m = rw q (ap Refused m ∙ ended-number sh (received_counts (Err f)) f)
 
-  pub ended-left : (n : ℕ) → e ≡ Left n
-      → Came (record { shape = sh; packets = k.packets; repeats = k.repeats; left = n; length = 0 }) ≡ ended sh k (ending_value e)
-  unfolding ending_value ended
-  ended-left n q = rw q
+  module _ (k : Counts) (e : Ending) where
+    pub ended-left : (n : ℕ) → e ≡ Left n
+        → Came (record { shape = sh; packets = k.packets; repeats = k.repeats; left = n; length = 0 }) ≡ ended sh k (gives (reception_of e))
+    unfolding reception_of ended
+    ended-left n q = rw q
 
-  pub ended-file : (n : ℕ) → e ≡ File n
-      → Came (record { shape = sh; packets = k.packets; repeats = k.repeats; left = 0; length = n }) ≡ ended sh k (ending_value e)
-  unfolding ending_value ended
-  ended-file n q = rw q
+    pub ended-file : (n : ℕ) → e ≡ File n
+        → Came (record { shape = sh; packets = k.packets; repeats = k.repeats; left = 0; length = n }) ≡ ended sh k (gives (reception_of e))
+    unfolding reception_of ended
+    ended-file n q = rw q
 
 -- ---- the parts of memory that are lent
 
@@ -144,16 +151,23 @@ outcome_fits p fs bs (received h s short air small xs₀ fs₀ bs₀ xs _ _ b v 
     ended-fits h.shape k v ok (omega arith)
     (λ (n : ℕ) (q : v ≡ gives (file n)). let m = file-le outcome n q in omega (arith, b))
 
-pub came-room : (o : Outcome) (r : Report) → o ≡ Came r → Fits o → Room r
-unfolding Fits
-came-room o r e f = rw e at f
+-- a text holds only that there is a proof of `Fits`: what is drawn from it has one proof at most
+Room-prop : (r : Report) → IsProp (Room r)
+Room-prop r = hlevel props
 
-pub texts-fit : (o : Outcome) → Fits o → texts o ≤ 65536
+pub came-room : (o : Outcome) (r : Report) → o ≡ Came r → ∥ Fits o ∥₁ → Room r
+unfolding Fits
+came-room o r e f = ∥∥₁_elim f (Room-prop r) (λ x. rw e at x)
+
+texts_le : (o : Outcome) → Fits o → texts o ≤ 65536
 unfolding Fits texts
-texts-fit TooBig f = omega arith
-texts-fit (Refused _) f = omega arith
-texts-fit (Came r) f = both (eqb r.left 0)
+texts_le TooBig f = omega arith
+texts_le (Refused _) f = omega arith
+texts_le (Came r) f = both (eqb r.left 0)
   where
     both : (b : Bool) → cond b r.length (cells r.shape) ≤ 65536
     both true = f.file_fits
     both false = f.cells_fit
+
+pub texts-fit : (o : Outcome) → ∥ Fits o ∥₁ → texts o ≤ 65536
+texts-fit o f = ∥∥₁_elim f le_prop (texts_le o)

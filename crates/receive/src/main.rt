@@ -10,6 +10,7 @@ ghost use Rattle.receive.specs.Printed.{printed};
 ghost use Rattle.receive.specs.Writes.{Writes};
 ghost use Rattle.receive.specs.Inner.Pieces.{Fits};
 
+use crate::pieces::Text;
 use crate::receiving::Outcome;
 use printing::LIMIT;
 use std::alloc::Global;
@@ -36,7 +37,7 @@ fn run<R: Read + Drop, W: Write>(alloc: Global, from: R, to: &mut W) -> io::Resu
     write_pieces(to, &mut out, flags, file, outcome)
 }
 
-// Writes the text of an outcome: its pieces, in their order.
+// Writes the text of an outcome: its pieces, in their order. Here alone is asked what a `Text` holds of its memory.
 fn write_pieces<W: Write>(
     to: &mut W,
     out: &mut [u8],
@@ -47,8 +48,13 @@ fn write_pieces<W: Write>(
     requires { (length out.old ≡ 65536) × (length flags.now ≡ 65536) × (length file.now ≡ 65536) × Fits outcome }
     ensures { OnOk result (Appends (W.contents to.old) (W.contents to.new) (printed flags.now file.now outcome)) }
 {
-    for k in 0..pieces::count(outcome) {
-        let end = pieces::piece(out, flags, file, outcome, k);
+    let text = Text {
+        flags,
+        file,
+        outcome,
+    };
+    for k in 0..text.count() {
+        let end = text.piece(out, k);
         to.write_all(&out[..end])?;
     }
     Ok(())

@@ -10,25 +10,80 @@ ghost use Rattle.receive.specs.Inner.Pieces.{Fits};
 use crate::receiving::{Outcome, Report};
 use shape::Shape;
 
-// How many pieces an outcome is printed in.
-pub(crate) fn count(outcome: Outcome) -> usize
-    requires { Fits outcome }
-    ensures { result ≡ pieces outcome }
-{
-    1 + (texts(outcome) + 511) / 512
+// An outcome that is printed, with the memory that its bytes and its holes are read from.
+// `Fits` goes by cases, so that a ghost field holds it truncated.
+#[derive(Clone, Copy)]
+pub(crate) struct Text<'a> {
+    pub(crate) flags: &'a [u8],
+    pub(crate) file: &'a [u8],
+    pub(crate) outcome: Outcome,
+    ghost flags_whole: { length flags.now ≡ 65536 },
+    ghost file_whole: { length file.now ≡ 65536 },
+    ghost fits: { ∥ Fits outcome ∥₁ },
 }
 
-// Puts piece k at the start of `out`, and answers where it ends.
-pub(crate) fn piece(out: &mut [u8], flags: &[u8], file: &[u8], outcome: Outcome, k: usize) -> usize
-    requires { (length out.old ≡ 65536) × (length flags.now ≡ 65536) × (length file.now ≡ 65536)
-        × Fits outcome × (k < pieces outcome) }
-    ensures prefix_len { IsPrefixLen result out.new }
-    ensures out_after { take result out.new ≡ piece flags.now file.now outcome k }
-{
-    if k == 0 {
-        return opening(out, outcome);
+impl Text<'_> {
+    // How many pieces it is printed in.
+    pub(crate) fn count(&self) -> usize
+        ensures { result ≡ pieces self.now.outcome }
+    {
+        1 + (self.texts() + 511) / 512
     }
-    run(out, flags, file, outcome, 512 * (k - 1))
+
+    // Puts piece k at the start of `out`, and answers where it ends.
+    pub(crate) fn piece(&self, out: &mut [u8], k: usize) -> usize
+        requires { (length out.old ≡ 65536) × (k < pieces self.now.outcome) }
+        ensures prefix_len { IsPrefixLen result out.new }
+        ensures out_after { take result out.new ≡ piece self.now.flags.now self.now.file.now self.now.outcome k }
+    {
+        if k == 0 {
+            return opening(out, self.outcome);
+        }
+        self.run(out, 512 * (k - 1))
+    }
+
+    // The texts from one on, 512 or as many as there are.
+    fn run(&self, out: &mut [u8], from: usize) -> usize
+        requires { (length out.old ≡ 65536) × (from < texts self.now.outcome) }
+        ensures prefix_len { IsPrefixLen result out.new }
+        ensures out_after { take result out.new ≡
+            joined (text_of self.now.flags.now self.now.file.now self.now.outcome) from (min 512 (texts self.now.outcome - from)) }
+    {
+        let count = (self.texts() - from).min(512);
+        let mut at = 0;
+        for i in 0..count {
+            at = self.append_text(out, at, from + i);
+        }
+        at
+    }
+
+    // How many texts stand behind the opening lines: one a byte of the file where no cell is left, else one a cell.
+    fn texts(&self) -> usize
+        ensures { result ≡ texts self.now.outcome }
+    {
+        match self.outcome {
+            Outcome::TooBig | Outcome::Refused(_) => 0,
+            Outcome::Came(report) if report.left == 0 => report.length,
+            Outcome::Came(report) => {
+                let sh = report.shape;
+                sh.l1 * sh.l2 * sh.l3
+            }
+        }
+    }
+
+    // Text i of them.
+    fn append_text(&self, out: &mut [u8], at: usize, i: usize) -> usize
+        requires { (at ≤ length out.old) × (i < texts self.now.outcome) }
+        ensures { Appended out.old at (text_of self.now.flags.now self.now.file.now self.now.outcome i) out.new result }
+    {
+        match self.outcome {
+            Outcome::TooBig | Outcome::Refused(_) => at,
+            Outcome::Came(report) if report.left == 0 => {
+                append_byte(out, at, self.file, report.length, i)
+            }
+            Outcome::Came(report) => append_cell(out, at, self.flags, report.shape, i),
+        }
+    }
 }
 
 // The lines that stand before the bytes or the holes.
@@ -41,67 +96,6 @@ fn opening(out: &mut [u8], outcome: Outcome) -> usize
         Outcome::TooBig => printing::append(out, 0, b"too big\n"),
         Outcome::Refused(f) => printing::append_refused(out, 0, f),
         Outcome::Came(report) => append_report(out, report),
-    }
-}
-
-// The texts from one on, 512 or as many as there are.
-fn run(out: &mut [u8], flags: &[u8], file: &[u8], outcome: Outcome, from: usize) -> usize
-    requires { (length out.old ≡ 65536) × (length flags.now ≡ 65536) × (length file.now ≡ 65536)
-        × Fits outcome × (from < texts outcome) }
-    ensures prefix_len { IsPrefixLen result out.new }
-    ensures out_after { take result out.new ≡
-        joined (text_of flags.now file.now outcome) from (min 512 (texts outcome - from)) }
-{
-    let count = printing::least(512, texts(outcome) - from);
-    let mut at = 0;
-    let mut i = 0;
-    while i < count {
-        at = append_text(out, at, flags, file, outcome, from + i);
-        i += 1;
-    }
-    at
-}
-
-// How many texts stand behind the opening lines: one a byte of the file where no cell is left, else one a cell.
-fn texts(outcome: Outcome) -> usize
-    requires { Fits outcome }
-    ensures { result ≡ texts outcome }
-{
-    match outcome {
-        Outcome::TooBig => 0,
-        Outcome::Refused(_) => 0,
-        Outcome::Came(report) => {
-            if report.left == 0 {
-                return report.length;
-            }
-            let sh = report.shape;
-            sh.l1 * sh.l2 * sh.l3
-        }
-    }
-}
-
-// Text i of them.
-fn append_text(
-    out: &mut [u8],
-    at: usize,
-    flags: &[u8],
-    file: &[u8],
-    outcome: Outcome,
-    i: usize,
-) -> usize
-    requires { (at ≤ length out.old) × (i < length flags.now) × (i < length file.now) × Fits outcome }
-    ensures { Appended out.old at (text_of flags.now file.now outcome i) out.new result }
-{
-    match outcome {
-        Outcome::TooBig => at,
-        Outcome::Refused(_) => at,
-        Outcome::Came(report) => {
-            if report.left == 0 {
-                return append_byte(out, at, file, report.length, i);
-            }
-            let sh = report.shape;
-            append_cell(out, at, flags, sh, i)
-        }
     }
 }
 
@@ -140,8 +134,7 @@ fn append_byte(out: &mut [u8], at: usize, file: &[u8], n: usize, i: usize) -> us
     ensures { Appended out.old at (byte_text file.now n i) out.new result }
 {
     let behind = printing::append_hex(out, at, file[i]);
-    let mark = [separator(n, i)];
-    printing::append(out, behind, &mark)
+    printing::append(out, behind, &[separator(n, i)])
 }
 
 // A newline ends a line of 16 bytes, and the last line.
@@ -149,10 +142,11 @@ fn separator(n: usize, i: usize) -> u8
     requires { i < 18446744073709551615 }
     ensures { result ≡ Rattle.receive.specs.Printed.separator n i }
 {
-    if i + 1 == n {
-        return b'\n';
+    if i + 1 == n || i % 16 == 15 {
+        b'\n'
+    } else {
+        b' '
     }
-    if i % 16 == 15 { b'\n' } else { b' ' }
 }
 
 // The line of cell m where it is a hole.
@@ -161,17 +155,17 @@ fn append_cell(out: &mut [u8], at: usize, flags: &[u8], sh: Shape, m: usize) -> 
     ensures { Appended out.old at (hole_text sh flags.now m) out.new result }
 {
     if flags[m] == 1 {
-        return append_hole(out, at, sh, m);
+        append_hole(out, at, sh, m)
+    } else {
+        at
     }
-    at
 }
 
 fn append_hole(out: &mut [u8], at: usize, sh: Shape, m: usize) -> usize
     requires { Valid sh }
     ensures { Appended out.old at (hole_line sh m) out.new result }
 {
-    let l1 = sh.l1;
-    let l2 = sh.l2;
+    let Shape { l1, l2, .. } = sh;
     let behind = printing::append_triple(
         out,
         at,

@@ -1,12 +1,13 @@
 // Receiving an input: what there is to print of it.
 ghost use Rattle.std.specs.Prelude.{◌≡◌, ◌≤◌, length};
-ghost use Rattle.answer.specs.Values.{passes};
+ghost use Rattle.answer.specs.Values.{gives, passes};
 ghost use Rattle.pack.specs.declared.Section.{Section};
 ghost use Rattle.pack.specs.Reading.{air_of};
-ghost use Rattle.receiver.specs.Receive.{ending_value};
+ghost use Rattle.receiver.specs.Receive.{reception_of, received_value, received_counts};
 ghost use Rattle.receive.specs.Outcomes.{ended, InputOutcome};
 
-use pack::{AirRead, Header};
+use answer::Refusal;
+use pack::{Header, Section};
 use printing::LIMIT;
 use receiver::{Ending, Received};
 use shape::Shape;
@@ -21,7 +22,7 @@ pub(crate) struct Report {
     pub(crate) length: usize,
 }
 
-// What there is to print: a refusal by its number.
+// What there is to print: a refusal by its number, which is all that `ended` has of a refused pack.
 #[derive(Clone, Copy)]
 pub(crate) enum Outcome {
     TooBig,
@@ -38,8 +39,8 @@ pub(crate) fn receive(air: &[u8], cube: &mut [u8], flags: &mut [u8], file: &mut 
         return Outcome::TooBig;
     }
     match pack::read_air(air) {
-        AirRead::Refused(f) => Outcome::Refused(answer::number(f)),
-        AirRead::Air(h, _) => take(air, cube, flags, file, h),
+        Err(f) => Outcome::Refused(answer::number(f)),
+        Ok((h, _)) => take(air, cube, flags, file, h),
     }
 }
 
@@ -66,26 +67,29 @@ fn take(air: &[u8], cube: &mut [u8], flags: &mut [u8], file: &mut [u8], h: Heade
 }
 
 // The receiver's answer as an outcome: a refusal without its index.
-fn outcome_of(sh: Shape, received: Received) -> Outcome
-    ensures { result ≡ ended sh received.counts (ending_value received.ending) }
+fn outcome_of(sh: Shape, received: Result<Received, Refusal>) -> Outcome
+    ensures { result ≡ ended sh (received_counts received) (received_value received) }
 {
-    let ending = received.ending;
-    let counts = received.counts;
-    match ending {
-        Ending::Refused(f) => Outcome::Refused(answer::number(f)),
-        Ending::Left(left) => Outcome::Came(Report {
-            shape: sh,
-            packets: counts.packets,
-            repeats: counts.repeats,
-            left: left,
-            length: 0,
-        }),
-        Ending::File(length) => Outcome::Came(Report {
-            shape: sh,
-            packets: counts.packets,
-            repeats: counts.repeats,
-            left: 0,
-            length: length,
-        }),
+    match received {
+        Err(f) => Outcome::Refused(answer::number(f)),
+        Ok(came) => came_of(sh, came),
     }
+}
+
+// What there is to print of a pack that is not refused.
+fn came_of(sh: Shape, came: Received) -> Outcome
+    ensures { result ≡ ended sh came.counts (gives (reception_of came.ending)) }
+{
+    let (left, length) = match came.ending {
+        Ending::Left(left) => (left, 0),
+        Ending::File(length) => (0, length),
+    };
+    let counts = came.counts;
+    Outcome::Came(Report {
+        shape: sh,
+        packets: counts.packets,
+        repeats: counts.repeats,
+        left,
+        length,
+    })
 }

@@ -1,4 +1,5 @@
 -- The file in a whole cube: what its data string makes of opening it.
+use Rattle.std.specs.Prelude.{Result, Ok, Err}
 use mathlib.Core.Path.{◌≡◌, refl, sym, ap, subst, ◌∙◌}
 use mathlib.Core.Bool.{Bool, true, false}
 use mathlib.Core.List.{List, ◌++◌}
@@ -7,15 +8,12 @@ use native.Mathlib.Omega.{arith}
 use lib.ListN.{length, get_or, take, drop, length-drop, take-append-drop}
 use lib.Seq.{ext_get_or, get_or-take, get_or-drop, length-take-le}
 use Rattle.answer.specs.declared.Refusal.{Refusal}
-use Rattle.answer.specs.declared.Answer.{Answer}
-use Rattle.answer.specs.Values.{gives, refused, answer_value}
+use Rattle.answer.specs.Values.{gives, refused, value_of}
 use Rattle.span.specs.Decision.{Decides}
 use Rattle.span.specs.Span.{Copied}
 use Rattle.shape.specs.declared.Shape.{Shape}
 use Rattle.shape.specs.Shapes.{Valid, cells, capacity}
-use Rattle.data.specs.declared.DataCheck.{DataCheck}
-use Rattle.data.specs.declared.DataCheck.TheVariants.{Zero, Refused as NotRead}
-use Rattle.data.specs.Calls.{ReadOutcome, zero_value, ZeroOutcome}
+use Rattle.data.specs.Calls.{ReadOutcome, ZeroOutcome}
 use Rattle.data.specs.Data.{layer, data_of, held_data}
 use Rattle.data.proofs.HeldData.{length-held_data, held_data-at}
 use Rattle.data.proofs.Tables.{tabulate-lt}
@@ -32,22 +30,22 @@ unfolding held_data data_of layer
 held_small sh xs small q = tabulate-lt (capacity sh) (data_of sh xs) (λ i l. small _) q
 
 -- what the test for 00h answers where the cube has its length
-module _ (sh : Shape) (xs : List ℕ) (from : ℕ) (v : Valid sh) (size : length xs ≡ sh.w * cells sh) (r : DataCheck)
-    (outcome : ZeroOutcome sh xs from (zero_value r)) where
-  pub zero-told : (b : Bool) → r ≡ Zero b → Decides ((q : ℕ) → from ≤ q → q < capacity sh → data_of sh xs q ≡ 0) b
+module _ (sh : Shape) (xs : List ℕ) (from : ℕ) (v : Valid sh) (size : length xs ≡ sh.w * cells sh) (r : Result Bool Refusal)
+    (outcome : ZeroOutcome sh xs from (value_of r)) where
+  pub zero-told : (b : Bool) → r ≡ Ok b → Decides ((q : ℕ) → from ≤ q → q < capacity sh → data_of sh xs q ≡ 0) b
   zero-told b e =
       let (b', e', d) = zero-works r (cube-done-checked sh _ v size) outcome in
       let same : b' ≡ b = cc in
       rw same at d
 
-  pub zero-answered : {X : Type 0} (f : Refusal) → r ≡ NotRead f → X
+  pub zero-answered : {X : Type 0} (f : Refusal) → r ≡ Err f → X
   zero-answered f e =
       let (b, e', d) = zero-works r (cube-done-checked sh _ v size) outcome in
       clash cc
 
 -- what is read of the data string where the spans lie inside
-pub read_told : (sh : Shape) (xs : List ℕ) (from to n : ℕ) (before after : List ℕ) (r : Answer) → Valid sh → length xs ≡ sh.w * cells sh
-    → from + n ≤ capacity sh → to + n ≤ length before → ReadOutcome sh xs from to n before after (answer_value r)
+pub read_told : (sh : Shape) (xs : List ℕ) (from to n : ℕ) (before after : List ℕ) (r : Result Unit Refusal) → Valid sh → length xs ≡ sh.w * cells sh
+    → from + n ≤ capacity sh → to + n ≤ length before → ReadOutcome sh xs from to n before after (value_of r)
     → Copied (held_data sh xs) from before to n after
 read_told sh xs from to n before after r v size l m outcome = (read-works (read-done-checked sh _ _ from to n v size l m) outcome).1
 

@@ -1,19 +1,21 @@
 -- The outcome of a pack: what its checks give once they pass, and the answer that each end of the code gives.
+use Rattle.std.specs.Prelude.{Result, Ok, Err}
 use mathlib.Core.Path.{◌≡◌, refl, sym, ap, ◌∙◌}
-use mathlib.Core.Bool.{Bool, true, false}
+use mathlib.Core.Bool.{Bool, true, false, cond}
+use mathlib.Core.Logic.{◌≢◌}
 use mathlib.Core.List.{List}
 use Prim.Native.Nat.{ℕ, ◌-◌, ◌*◌, ◌≤◌, ◌<◌}
 use native.Mathlib.Omega.{arith}
 use lib.Dec.{eqb}
 use lib.ListN.{length}
-use borrow.Author.Tests.{eq-eqb, eqb-true}
+use borrow.Author.Tests.{eq-eqb, ne_eqb, eqb-true, eqb-false}
 use Rattle.answer.specs.declared.Fault.TheVariants.{SliceLength, Contradiction, FileLength}
 use Rattle.answer.specs.declared.PacketFault.TheVariants.{CellIndex}
 use Rattle.answer.specs.declared.Refusal.{Refusal}
 use Rattle.answer.specs.declared.Refusal.TheVariants.{Plain, Packet}
 use Rattle.answer.specs.Refusals.{fault_number, packet_fault_number}
-use Rattle.answer.specs.Values.{Value, gives, refused, Checked, passes, check, and_then, checked, refusal}
-use Rattle.answer.proofs.Values.{check-passed, then-passed, then-refused, passes-injective, checked-fails, refusal-gives, refusal-injective}
+use Rattle.answer.specs.Values.{Value, gives, refused, Checked, passes, check, and_then, checked, refusal, value_of}
+use Rattle.answer.proofs.Values.{check-passed, then-passed, then-refused, passes-injective, checked-fails, refusal-gives, refusal-injective, value-passed, value-refused}
 use Rattle.field.specs.Field.{reduction}
 use Rattle.shape.specs.declared.Shape.{Shape}
 use Rattle.shape.specs.declared.Sizes.{Sizes}
@@ -21,32 +23,23 @@ use Rattle.shape.specs.Shapes.{Valid, both, cells, capacity, sizes}
 use Rattle.shape.specs.Flags.{flags_valid}
 use Rattle.shape.proofs.Missing.{flags-valid}
 use Rattle.shape.proofs.Valid.{both-parts, both_true, valid-passes}
-use Rattle.fill.specs.declared.FillAnswer.{FillAnswer}
-use Rattle.fill.specs.declared.FillAnswer.TheVariants.{Left as Stays, Refused as Unfilled}
 use Rattle.fill.specs.Fill.{CellsLeft, fill_value, flags_checked, FillOutcome}
 use Rattle.fill.proofs.Unique.{done_refused}
 use Rattle.fill.proofs.Recovery.{left-outcome, refused-outcome}
 use Rattle.pack.specs.declared.Header.{Header}
 use Rattle.pack.specs.declared.Section.{Section}
-use Rattle.pack.specs.declared.AirRead.{AirRead}
-use Rattle.pack.specs.declared.AirRead.TheVariants.{Air, Refused as NoAir}
-use Rattle.pack.specs.Reading.{air_of, air_value}
+use Rattle.pack.specs.Reading.{air_of}
 use Rattle.pack.specs.Packets.{Source, source, InRange}
-use Rattle.pack.proofs.Sound.{air-sound, air-told, air-refused}
+use Rattle.pack.proofs.Sound.{air-sound}
 use Rattle.receiver.specs.declared.Counts.{Counts}
 use Rattle.receiver.specs.declared.Received.{Received}
 use Rattle.receiver.specs.declared.Ending.{Ending}
-use Rattle.receiver.specs.declared.Ending.TheVariants.{File, Left, Refused}
-use Rattle.receiver.specs.declared.gathering.Gathering.{Gathering}
-use Rattle.receiver.specs.declared.gathering.Gathering.TheVariants.{Ends, Whole}
-use Rattle.receiver.specs.declared.file.Opening.{Opening}
-use Rattle.receiver.specs.declared.file.Opening.TheVariants.{Held, Bad}
+use Rattle.receiver.specs.declared.Ending.TheVariants.{File, Left}
 use Rattle.receiver.specs.Placing.{Placed}
-use Rattle.receiver.specs.Gathering.{Reception, file, left, counts_of, no_counts, Taken, GatherOutcome, unfit, index, contradiction, some_left, none_left}
-use Rattle.receiver.specs.Opening.{OpenOutcome}
-use Rattle.receiver.specs.Receive.{ending_value, Memory, lent, slices_fit, receive_checked, ReceiveOutcome, unopened, bad_file, opened}
+use Rattle.receiver.specs.Gathering.{Reception, left, ends, whole, counts_of, no_counts, Taken, GatherOutcome, unfit, index, contradiction, some_left, none_left}
+use Rattle.receiver.specs.Opening.{OpenOutcome, held, bad}
+use Rattle.receiver.specs.Receive.{reception_of, received_value, received_counts, Memory, lent, slices_fit, receive_checked, ReceiveOutcome, unopened, bad_file, opened}
 use Rattle.receiver.specs.Inner.Gathering.{gathering_value, gathering_counts}
-use Rattle.receiver.specs.Inner.File.{opening_value}
 use Rattle.receiver.proofs.Bytes.{clash}
 use Rattle.receiver.proofs.Arrivals.{flag-le}
 
@@ -97,104 +90,117 @@ placed-checked h s n xs fs v placed =
       placed-valid h s n xs fs placed,
     )
 
--- and where no cells are left to tell, 13 is
-not-left-13 : (sh : Shape) (xs fs ys gs : List ℕ) (v : Value CellsLeft) → flags_checked sh (length xs) fs ≡ passes tt → FillOutcome reduction sh xs fs ys gs v
-    → ((k : ℕ) → v ≡ gives (CellsLeft.left k) → ⊥) → FillOutcome reduction sh xs fs ys gs (refused 13)
-not-left-13 sh xs fs ys gs _ done (FillOutcome.fill_refused n failed a b) never = absurd (done_refused done failed)
-not-left-13 sh xs fs ys gs _ done (FillOutcome.fill_done a b c d) never = absurd (never _ refl)
-not-left-13 sh xs fs ys gs _ done (FillOutcome.fill_contradiction a k b c d g) never = FillOutcome.fill_contradiction a k b c d g
+-- and the only refusal that is left is 13
+only-13 : (sh : Shape) (xs fs ys gs : List ℕ) (v : Value CellsLeft) → flags_checked sh (length xs) fs ≡ passes tt → FillOutcome reduction sh xs fs ys gs v
+    → ((k : ℕ) → v ≡ gives (CellsLeft.left k) → ⊥) → v ≡ refused 13
+only-13 sh xs fs ys gs _ done (FillOutcome.fill_refused n failed a b) never = absurd (done_refused done failed)
+only-13 sh xs fs ys gs _ done (FillOutcome.fill_done a b c d) never = absurd (never _ refl)
+only-13 sh xs fs ys gs _ done (FillOutcome.fill_contradiction a k b c d g) never = refl
 
-pub refused-13 : (sh : Shape) (xs fs ys gs : List ℕ) (a : FillAnswer) (f : Refusal) → flags_checked sh (length xs) fs ≡ passes tt
-    → FillOutcome reduction sh xs fs ys gs (fill_value a) → a ≡ Unfilled f → FillOutcome reduction sh xs fs ys gs (refused 13)
-refused-13 sh xs fs ys gs a f done o e =
-    not-left-13 sh xs fs ys gs (refusal f) done (refused-outcome a f o e) (λ k same. refusal-gives f (CellsLeft.left k) same)
+unfilled : (sh : Shape) (xs fs ys gs : List ℕ) (a : Result ℕ Refusal) (f : Refusal) → flags_checked sh (length xs) fs ≡ passes tt
+    → FillOutcome reduction sh xs fs ys gs (fill_value a) → a ≡ Err f → f ≡ Plain Contradiction
+unfolding refusal fault_number
+unfilled sh xs fs ys gs a f done o e =
+    refusal-injective {A = CellsLeft} f (Plain Contradiction)
+    (only-13 sh xs fs ys gs (refusal f) done (refused-outcome a f o e) (λ k same. refusal-gives f (CellsLeft.left k) same))
 
 -- ---- each end of gathering
 
--- a refusal
-abbrev ended : Refusal → Gathering
-ended f = Ends (Refused f) no_counts
-
 module _ (p : List ℕ) (checks : Checked (Header × Section)) (xs fs : List ℕ) (h : Header) (s : Section) (accepted : checks ≡ passes (h, s)) where
-  pub gathered-index : (i : ℕ) (end : Gathering) → i < s.count → (InRange p h s i → ⊥) → ((j : ℕ) → j < i → InRange p h s j)
-      → end ≡ ended (Packet CellIndex i) → GatherOutcome reduction p checks xs fs xs fs (gathering_value end) (gathering_counts end)
-  unfolding gathering_value gathering_counts ending_value refusal packet_fault_number
-  gathered-index i end l out before is = rw is (index h s accepted i l out before refl refl)
+  pub gathered-index : (i : ℕ) → i < s.count → (InRange p h s i → ⊥) → ((j : ℕ) → j < i → InRange p h s j)
+      → GatherOutcome reduction p checks xs fs xs fs (gathering_value (Err (Packet CellIndex i))) (gathering_counts (Err (Packet CellIndex i)))
+  unfolding gathering_value gathering_counts refusal packet_fault_number
+  gathered-index i l out before = index h s accepted i l out before refl refl
 
-  module _ (xs₁ fs₁ ys gs : List ℕ) (taken : Taken p h s xs₁ fs₁) (a : FillAnswer) (fill : FillOutcome reduction h.shape xs₁ fs₁ ys gs (fill_value a)) where
-    pub gathered-contradiction : (f : Refusal) (end : Gathering) → Valid h.shape → a ≡ Unfilled f → end ≡ ended (Plain Contradiction)
-        → GatherOutcome reduction p checks xs fs ys gs (gathering_value end) (gathering_counts end)
-    unfolding gathering_value gathering_counts ending_value refusal fault_number
-    gathered-contradiction f end v e is =
+  module _ (xs₁ fs₁ ys gs : List ℕ) (taken : Taken p h s xs₁ fs₁) (a : Result ℕ Refusal) (fill : FillOutcome reduction h.shape xs₁ fs₁ ys gs (fill_value a)) where
+    pub gathered-contradiction : (f : Refusal) → Valid h.shape → a ≡ Err f
+        → GatherOutcome reduction p checks xs fs ys gs (gathering_value (Err (Plain Contradiction))) (gathering_counts (Err (Plain Contradiction)))
+    unfolding gathering_value gathering_counts refusal fault_number
+    gathered-contradiction f v e =
         let done = placed-checked _ _ _ _ _ v taken.placed in
-        rw is (contradiction h s accepted xs₁ fs₁ taken (refused-13 _ _ _ _ _ a f done fill e))
+        let same = unfilled _ _ _ _ _ a f done fill e in
+        contradiction h s accepted xs₁ fs₁ taken (rw same at (refused-outcome a f fill e))
 
-    module _ (k : ℕ) (counts : Counts) (e : a ≡ Stays k) (count : counts ≡ counts_of h.shape (source p h s)) where
-      pub gathered-left : (k ≡ 0 → ⊥)
-          → GatherOutcome reduction p checks xs fs ys gs (gathering_value (Ends (Left k) counts)) (gathering_counts (Ends (Left k) counts))
-      unfolding gathering_value gathering_counts ending_value
-      gathered-left some = rw count (some_left h s accepted xs₁ fs₁ taken k (omega arith) (left-outcome a k fill e))
-
-      pub gathered-whole : k ≡ 0 → GatherOutcome reduction p checks xs fs ys gs (gathering_value (Whole counts)) (gathering_counts (Whole counts))
-      unfolding gathering_value gathering_counts
-      gathered-whole none = rw count (none_left h s accepted xs₁ fs₁ taken (rw none at (left-outcome a k fill e)))
+    pub gathered-filled : (k : ℕ) (counts : Counts) → a ≡ Ok k → counts ≡ counts_of h.shape (source p h s)
+        → GatherOutcome reduction p checks xs fs ys gs (gathering_value (Ok (k, counts))) (gathering_counts (Ok (k, counts)))
+    unfolding gathering_value gathering_counts
+    gathered-filled k counts e count = rw count (by (eqb k 0) refl)
+      where
+        by : (b : Bool) → eqb k 0 ≡ b
+            → GatherOutcome reduction p checks xs fs ys gs (cond b whole (ends (gives (left k)))) (counts_of h.shape (source p h s))
+        by true t = none_left h s accepted xs₁ fs₁ taken (rw (eqb-true k 0 t) at (left-outcome a k fill e))
+        by false t = some_left h s accepted xs₁ fs₁ taken k (let ne = eqb-false k 0 t in omega arith) (left-outcome a k fill e)
 
 -- ---- each end of the call
 
 -- what the call answers
-abbrev Receives : List ℕ → Memory → Memory → Received → Type 0
-Receives p m m' r = ReceiveOutcome reduction p m m' (ending_value r.ending) r.counts
+abbrev Receives : List ℕ → Memory → Memory → Result Received Refusal → Type 0
+Receives p m m' r = ReceiveOutcome reduction p m m' (received_value r) (received_counts r)
 
--- a refusal
-abbrev refusing : Refusal → Received
-refusing f = record { ending = Refused f; counts = no_counts }
+-- the only refusal of opening is 14
+unopenable : (sh : Shape) (xs bs cs : List ℕ) (o : Result ℕ Refusal) (f : Refusal) → OpenOutcome sh xs bs cs (value_of o) → o ≡ Err f
+    → f ≡ Plain FileLength
+unfolding value_of refusal fault_number
+unopenable sh xs bs cs o f opens e =
+    refusal-injective {A = ℕ} f (Plain FileLength) (by (refusal f) (rw e at opens) (λ n same. refusal-gives f n same))
+  where
+    by : (v : Value ℕ) → OpenOutcome sh xs bs cs v → ((n : ℕ) → v ≡ gives n → ⊥) → v ≡ refused 14
+    by _ (held bytes a b c) never = absurd (never _ refl)
+    by _ (bad a b) never = refl
 
 module _ (p xs fs bs : List ℕ) where
-  module _ (r : AirRead) (read : air_value r ≡ checked (air_of p)) where
-    pub received-refused : (f : Refusal) (end : Received) → r ≡ NoAir f → end ≡ refusing f → Receives p (lent xs fs bs) (lent xs fs bs) end
-    unfolding ending_value receive_checked
+  module _ (r : Result (Header × Section) Refusal) (read : value_of r ≡ checked (air_of p)) where
+    pub received-refused : (f : Refusal) (end : Result Received Refusal) → r ≡ Err f → end ≡ Err f → Receives p (lent xs fs bs) (lent xs fs bs) end
+    unfolding received_value received_counts receive_checked
     received-refused f end e is =
-        let (n, failed, number) = checked-fails {B = Reception} _ f (then-refused (air_of p) _ f (air-refused (air_of p) r read f e)) in
+        let (n, failed, number) = checked-fails {B = Reception} _ f (then-refused (air_of p) _ f (value-refused r _ f read e)) in
         rw (is, number) (unopened (refused n) no_counts (unfit n failed refl refl) refl)
 
-    module _ (h : Header) (s : Section) (air : r ≡ Air h s) (b : Bool)
+    module _ (h : Header) (s : Section) (air : r ≡ Ok (h, s)) (b : Bool)
         (test : b ≡ both (eqb (length xs) h.sizes.bytes) (both (eqb (length fs) h.sizes.cells) (eqb (length bs) (h.sizes.capacity - 4)))) where
-      pub received-sizes : (end : Received) → b ≡ false → end ≡ refusing (Plain SliceLength) → Receives p (lent xs fs bs) (lent xs fs bs) end
-      unfolding ending_value refusal fault_number receive_checked slices_fit and_then check
-      received-sizes end no-fit is =
-          rw is (unopened (refused 4) no_counts (unfit 4 (rw (air-told (air_of p) r read h s air, sym test ∙ no-fit)) refl refl) refl)
+      pub received-sizes : b ≡ false → Receives p (lent xs fs bs) (lent xs fs bs) (Err (Plain SliceLength))
+      unfolding received_value received_counts refusal fault_number receive_checked slices_fit and_then check
+      received-sizes no-fit =
+          unopened (refused 4) no_counts (unfit 4 (rw (value-passed r _ (h, s) read air, sym test ∙ no-fit)) refl refl) refl
 
       pub received-accepted : b ≡ true → receive_checked p (lent xs fs bs) ≡ passes (h, s)
       unfolding receive_checked slices_fit and_then check
-      received-accepted fit = rw (air-told (air_of p) r read h s air, sym test ∙ fit)
+      received-accepted fit = rw (value-passed r _ (h, s) read air, sym test ∙ fit)
 
-  module _ (h : Header) (s : Section) (accepted : receive_checked p (lent xs fs bs) ≡ passes (h, s)) (ys gs : List ℕ) (g : Gathering)
+  module _ (h : Header) (s : Section) (accepted : receive_checked p (lent xs fs bs) ≡ passes (h, s)) (ys gs : List ℕ) (g : Result (ℕ × Counts) Refusal)
       (gathers : (checks : Checked (Header × Section)) → checks ≡ passes (h, s)
       → GatherOutcome reduction p checks xs fs ys gs (gathering_value g) (gathering_counts g)) where
-    pub received-ended : (e : Ending) (counts : Counts) → g ≡ Ends e counts
-        → Receives p (lent xs fs bs) (lent ys gs bs) (record { ending = e; counts = counts })
-    unfolding gathering_value gathering_counts
-    received-ended e counts is = unopened _ _ (rw is at (gathers _ accepted)) refl
+    pub received-ended : (f : Refusal) (end : Result Received Refusal) → g ≡ Err f → end ≡ Err f → Receives p (lent xs fs bs) (lent ys gs bs) end
+    unfolding gathering_value gathering_counts received_value received_counts
+    received-ended f end e is = rw is (unopened _ _ (rw e at (gathers _ accepted)) refl)
 
-    module _ (counts : Counts) (is : g ≡ Whole counts) (cs : List ℕ) (o : Opening) (opens : OpenOutcome h.shape ys bs cs (opening_value o)) where
-      pub received-file : (l : ℕ) → o ≡ Held l → Receives p (lent xs fs bs) (lent ys gs cs) (record { ending = File l; counts = counts })
-      unfolding ending_value opening_value gathering_value gathering_counts
-      received-file l e = opened h s _ accepted (rw is at (gathers _ accepted)) l (rw e at opens)
+    module _ (k : ℕ) (counts : Counts) (is : g ≡ Ok (k, counts)) where
+      gathered : (b : Bool) → eqb k 0 ≡ b
+          → GatherOutcome reduction p (receive_checked p (lent xs fs bs)) xs fs ys gs (cond b whole (ends (gives (left k)))) counts
+      unfolding gathering_value gathering_counts
+      gathered b t = rw (is, t) at (gathers _ accepted)
 
-      pub received-bad : (end : Received) → o ≡ Bad → end ≡ refusing (Plain FileLength) → Receives p (lent xs fs bs) (lent ys gs cs) end
-      unfolding ending_value opening_value refusal fault_number gathering_value gathering_counts
-      received-bad end e end_is = rw end_is (bad_file h s _ accepted (rw is at (gathers _ accepted)) (rw e at opens))
+      pub received-left : k ≢ 0 → Receives p (lent xs fs bs) (lent ys gs bs) (Ok (record { ending = Left k; counts = counts }))
+      unfolding received_value received_counts reception_of
+      received-left some = unopened _ _ (gathered false (ne_eqb k 0 some)) refl
 
--- ---- a value names one ending
+      module _ (none : k ≡ 0) (cs : List ℕ) (o : Result ℕ Refusal) (opens : OpenOutcome h.shape ys bs cs (value_of o)) where
+        pub received-file : (l : ℕ) → o ≡ Ok l → Receives p (lent xs fs bs) (lent ys gs cs) (Ok (record { ending = File l; counts = counts }))
+        unfolding received_value received_counts reception_of value_of
+        received-file l e = opened h s _ accepted (gathered true (eq-eqb k 0 none)) l (rw e at opens)
 
-pub ending-injective : (a b : Ending) → ending_value a ≡ ending_value b → a ≡ b
-unfolding ending_value
-ending-injective (File m) (File n) e = cc
-ending-injective (File m) (Left n) e = clash cc
-ending-injective (File m) (Refused f) e = absurd (refusal-gives f (file m) (sym e))
-ending-injective (Left m) (File n) e = clash cc
-ending-injective (Left m) (Left n) e = cc
-ending-injective (Left m) (Refused f) e = absurd (refusal-gives f (left m) (sym e))
-ending-injective (Refused f) (File n) e = absurd (refusal-gives f (file n) e)
-ending-injective (Refused f) (Left n) e = absurd (refusal-gives f (left n) e)
-ending-injective (Refused f) (Refused g) e = ap Refused (refusal-injective f g e)
+        pub received-bad : (f : Refusal) (end : Result Received Refusal) → o ≡ Err f → end ≡ Err f
+            → Receives p (lent xs fs bs) (lent ys gs cs) end
+        unfolding received_value received_counts value_of refusal fault_number
+        received-bad f end e is =
+            let same = unopenable _ _ _ _ o f opens e in
+            rw (is, same) (bad_file h s counts accepted (gathered true (eq-eqb k 0 none)) (rw (e, same) at opens))
+
+-- ---- a value and its counts name one answer
+
+pub reception-injective : (a b : Ending) → reception_of a ≡ reception_of b → a ≡ b
+unfolding reception_of
+reception-injective (File m) (File n) e = cc
+reception-injective (File m) (Left n) e = clash cc
+reception-injective (Left m) (File n) e = clash cc
+reception-injective (Left m) (Left n) e = cc

@@ -1,4 +1,3 @@
 -- What the internal functions of the crate `receiver` promise each other, module by module.
 pub mod Gathering
 pub mod Placing
-pub mod File

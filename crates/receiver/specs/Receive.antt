@@ -1,5 +1,6 @@
 -- The receiver (document 01, "Packs"): what `receive_pack` answers and leaves for every input.
-use Rattle.std.specs.Prelude.{◌≡◌, Bool, List, ℕ, ◌-◌, eqb, length}
+use Rattle.std.specs.Prelude.{◌≡◌, Bool, List, ℕ, ◌-◌, eqb, length, Result, Ok, Err}
+use Rattle.answer.specs.declared.Refusal.{Refusal}
 use Rattle.answer.specs.Values.{Value, gives, refused, Checked, passes, check, and_then, refusal}
 use Rattle.shape.specs.declared.Sizes.{Sizes}
 use Rattle.shape.specs.Shapes.{both}
@@ -7,16 +8,24 @@ use Rattle.pack.specs.declared.Header.{Header}
 use Rattle.pack.specs.declared.Section.{Section}
 use Rattle.pack.specs.Reading.{air_of}
 use Rattle.receiver.specs.declared.Counts.{Counts}
+use Rattle.receiver.specs.declared.Received.{Received}
 use Rattle.receiver.specs.declared.Ending.{Ending}
-use Rattle.receiver.specs.declared.Ending.TheVariants.{File, Left, Refused}
+use Rattle.receiver.specs.declared.Ending.TheVariants.{File, Left}
 use Rattle.receiver.specs.Gathering.{Reception, file, left, Gathered, ends, whole, no_counts, GatherOutcome}
 use Rattle.receiver.specs.Opening.{OpenOutcome}
 
--- what `receive_pack` answers
-unfoldable pub ending_value : Ending → Value Reception
-ending_value (File n) = gives (file n)
-ending_value (Left k) = gives (left k)
-ending_value (Refused f) = refusal f
+-- what `receive_pack` answers, and with which counts
+unfoldable pub reception_of : Ending → Reception
+reception_of (File n) = file n
+reception_of (Left k) = left k
+
+unfoldable pub received_value : Result Received Refusal → Value Reception
+received_value (Ok r) = gives (reception_of r.ending)
+received_value (Err f) = refusal f
+
+unfoldable pub received_counts : Result Received Refusal → Counts
+received_counts (Ok r) = r.counts
+received_counts (Err f) = no_counts
 
 -- "Lent slices": a cube, flags, the receiver's file buffer
 pub record Memory : Type 0 where

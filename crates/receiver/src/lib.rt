@@ -8,26 +8,19 @@ mod placing;
 ghost use Rattle.std.specs.Prelude.{◌≡◌, ◌-◌, ◌≤◌, eqb};
 ghost use Rattle.field.specs.Field.{reduction};
 ghost use Rattle.shape.specs.Shapes.{both};
-ghost use Rattle.receiver.specs.declared.Ending.TheVariants.{Refused};
-ghost use Rattle.receiver.specs.Gathering.{no_counts};
-ghost use Rattle.receiver.specs.Receive.{ending_value, lent, ReceiveOutcome};
+ghost use Rattle.receiver.specs.Receive.{received_value, received_counts, lent, ReceiveOutcome};
 
 use answer::{Fault, Refusal};
-use file::Opening;
-use gathering::Gathering;
-use pack::AirRead;
 use shape::Sizes;
 
-// How a pack ends: a file of so many bytes, so many cells left, or a refusal.
+// How a pack ends that is not refused: in a file of so many bytes, or with so many cells left.
 #[derive(Clone, Copy)]
 pub enum Ending {
     File(usize),
     Left(usize),
-    Refused(Refusal),
 }
 
-// The packets of a pack; its repeats, the packets whose cell had come before; its conflicts, the cells whose copies are not all equal. All are
-// 0 with a refusal.
+// The packets of a pack; its repeats, the packets whose cell had come before; its conflicts, the cells whose copies are not all equal.
 #[derive(Clone, Copy)]
 pub struct Counts {
     pub packets: usize,
@@ -43,31 +36,31 @@ pub struct Received {
 }
 
 // Receives a pack: a file, a count of cells left, or a refusal. The file is opened only where gathering leaves a whole cube.
-pub fn receive_pack(air: &[u8], cube: &mut [u8], flags: &mut [u8], buffer: &mut [u8]) -> Received
-    ensures { ReceiveOutcome reduction air.now (lent cube.old flags.old buffer.old) (lent cube.new flags.new buffer.new) (ending_value result.ending) result.counts }
+pub fn receive_pack(
+    air: &[u8],
+    cube: &mut [u8],
+    flags: &mut [u8],
+    buffer: &mut [u8],
+) -> Result<Received, Refusal>
+    ensures { ReceiveOutcome reduction air.now (lent cube.old flags.old buffer.old) (lent cube.new flags.new buffer.new) (received_value result) (received_counts result) }
 {
-    match pack::read_air(air) {
-        AirRead::Refused(f) => refuse(f),
-        AirRead::Air(h, s) => {
-            let z = h.sizes;
-            if !slices_fit(z, cube.len(), flags.len(), buffer.len()) {
-                return refuse(Refusal::Plain(Fault::SliceLength));
-            }
-            match gathering::gather(air, cube, flags, h, s) {
-                Gathering::Ends(ending, counts) => Received {
-                    ending: ending,
-                    counts: counts,
-                },
-                Gathering::Whole(counts) => match file::open(cube, buffer, h.shape) {
-                    Opening::Held(length) => Received {
-                        ending: Ending::File(length),
-                        counts: counts,
-                    },
-                    Opening::Bad => refuse(Refusal::Plain(Fault::FileLength)),
-                },
-            }
-        }
+    let (h, s) = pack::read_air(air)?;
+    let z = h.sizes;
+    if !slices_fit(z, cube.len(), flags.len(), buffer.len()) {
+        return Err(Refusal::Plain(Fault::SliceLength));
     }
+    let (left, counts) = gathering::gather(air, cube, flags, h, s)?;
+    if left != 0 {
+        return Ok(Received {
+            ending: Ending::Left(left),
+            counts,
+        });
+    }
+    let length = file::open(cube, buffer, h.shape)?;
+    Ok(Received {
+        ending: Ending::File(length),
+        counts,
+    })
 }
 
 // Whether the three slices have the lengths that the sizes ask for.
@@ -76,18 +69,4 @@ fn slices_fit(z: Sizes, bytes: usize, flags: usize, room: usize) -> bool
     ensures { result ≡ both (eqb bytes z.bytes) (both (eqb flags z.cells) (eqb room (z.capacity - 4))) }
 {
     bytes == z.bytes && (flags == z.cells && room == z.capacity - 4)
-}
-
-// A refusal, whose counts are 0.
-fn refuse(f: Refusal) -> Received
-    ensures { result ≡ record { ending = Refused f; counts = no_counts } }
-{
-    Received {
-        ending: Ending::Refused(f),
-        counts: Counts {
-            packets: 0,
-            repeats: 0,
-            conflicts: 0,
-        },
-    }
 }

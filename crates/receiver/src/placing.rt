@@ -10,7 +10,7 @@ ghost use Rattle.receiver.specs.Gathering.{counts_of};
 ghost use Rattle.receiver.specs.Inner.Placing.{Placeable, Marked, Tried, Run, Stops};
 
 use crate::Counts;
-use pack::{Header, PacketRead, Section};
+use pack::{Header, Section};
 use shape::Shape;
 
 // Places all packets, and counts them.
@@ -31,7 +31,7 @@ pub(crate) fn place(air: &[u8], cube: &mut [u8], flags: &mut [u8], h: Header, s:
     }
     Counts {
         packets: s.count,
-        repeats: repeats,
+        repeats,
         conflicts: settle(flags),
     }
 }
@@ -52,8 +52,9 @@ fn begin(cube: &mut [u8], flags: &mut [u8], h: Header)
         l3: sh.l3,
         w: 1,
     };
-    data::set_data(flags, single, h.used, 2);
-    data::set_data(cube, sh, h.used * sh.w, 0);
+    // Both have the lengths of their shapes, so that neither call refuses.
+    let _ = data::set_data(flags, single, h.used, 2);
+    let _ = data::set_data(cube, sh, h.used * sh.w, 0);
 }
 
 // Places one packet after another; the answer is the repeats. While packets are placed a flag is 1 where none came, 0 where all that came are
@@ -65,6 +66,7 @@ fn place_packets(air: &[u8], cube: &mut [u8], flags: &mut [u8], h: Header, s: Se
 {
     let n = s.count;
     let mut repeats = 0;
+    // A turn goes over a run of packets, not over one.
     let mut i = place_new(air, cube, flags, h, s, 0);
     while i < n {
         let j = place_repeats(air, cube, flags, h, s, i);
@@ -90,70 +92,65 @@ fn place_new(
 {
     let sh = h.shape;
     if sh.w == 1 {
-        place_firsts(air, cube, flags, h, s, from, true)
+        place_firsts::<true>(air, cube, flags, h, s, from)
     } else {
-        place_firsts(air, cube, flags, h, s, from, false)
+        place_firsts::<false>(air, cube, flags, h, s, from)
     }
 }
 
-fn place_firsts(
+fn place_firsts<const SINGLE: bool>(
     air: &[u8],
     cube: &mut [u8],
     flags: &mut [u8],
     h: Header,
     s: Section,
     from: usize,
-    single: bool,
 ) -> usize
     requires placeable { Placeable air.now h s from cube.old flags.old }
-    requires w_value { single ≡ true → h.shape.w ≡ 1 }
+    requires w_value { SINGLE ≡ true → h.shape.w ≡ 1 }
     ensures { Run h (source air.now h s) s.count from result cube.new flags.new 0
         × Stops (source air.now h s) s.count result true }
 {
     let n = s.count;
-    let mut i = from;
-    while i < n {
-        if !place_first(air, cube, flags, h, s, i, single) {
+    for i in from..n {
+        if !place_first::<SINGLE>(air, cube, flags, h, s, i) {
             return i;
         }
-        i += 1;
     }
-    i
+    n
 }
 
 // Places the first packet of a cell. False, and nothing changed, where a copy came before.
-fn place_first(
+fn place_first<const SINGLE: bool>(
     air: &[u8],
     cube: &mut [u8],
     flags: &mut [u8],
     h: Header,
     s: Section,
     i: usize,
-    single: bool,
 ) -> bool
     requires valid { Valid h.shape × Named air.now h s i × Marked h (source air.now h s) i cube.old flags.old }
-    requires w_value { single ≡ true → h.shape.w ≡ 1 }
+    requires w_value { SINGLE ≡ true → h.shape.w ≡ 1 }
     ensures { Tried h (source air.now h s) i cube.old flags.old cube.new flags.new 0 true result }
 {
     let sh = h.shape;
-    let read = pack::packet(air, h, s, i);
-    let PacketRead::Names(m, from) = read else {
+    let Some((m, from)) = pack::packet(air, h, s, i) else {
         return false;
     };
     if flags[m] != 1 {
         return false;
     }
-    put(air, cube, from, m, sh.w, single);
+    put::<SINGLE>(air, cube, from, m, sh.w);
     flags[m] = 0;
     true
 }
 
 // Copies a packet's bytes to cell m. A single byte is copied by itself: the call for a span would cost more than all else.
-fn put(air: &[u8], cube: &mut [u8], from: usize, m: usize, w: usize, single: bool)
-    requires { BothInside air.now from cube.old (m * w) w × (single ≡ true → w ≡ 1) }
+fn put<const SINGLE: bool>(air: &[u8], cube: &mut [u8], from: usize, m: usize, w: usize)
+    requires { BothInside air.now from cube.old (m * w) w × (SINGLE ≡ true → w ≡ 1) }
     ensures { Copied air.now from cube.old (m * w) w cube.new }
 {
-    if single {
+    if SINGLE {
         cube[m] = air[from];
     } else {
         span::copy(air, cube, from, m * w, w);
@@ -174,14 +171,12 @@ fn place_repeats(
         × Stops (source air.now h s) s.count result false }
 {
     let n = s.count;
-    let mut i = from;
-    while i < n {
+    for i in from..n {
         if !place_repeat(air, cube, flags, h, s, i) {
             return i;
         }
-        i += 1;
     }
-    i
+    n
 }
 
 // Compares a repeat with the bytes of its cell, and marks the cell where they differ, which nothing takes back. False, and nothing changed, where
@@ -199,8 +194,7 @@ fn place_repeat(
 {
     let sh = h.shape;
     let w = sh.w;
-    let read = pack::packet(air, h, s, i);
-    let PacketRead::Names(m, from) = read else {
+    let Some((m, from)) = pack::packet(air, h, s, i) else {
         return false;
     };
     if flags[m] == 1 {
@@ -218,15 +212,12 @@ fn settle(flags: &mut [u8]) -> usize
     ensures remarked { Remarked 1 flags.old flags.new }
     ensures value { result ≡ number (is_marked flags.old) (length flags.old) }
 {
-    let n = flags.len();
     let mut conflicts = 0;
-    let mut m = 0;
-    while m < n {
-        if flags[m] == 3 {
-            flags[m] = 1;
+    for flag in flags.iter_mut() {
+        if *flag == 3 {
+            *flag = 1;
             conflicts += 1;
         }
-        m += 1;
     }
     conflicts
 }

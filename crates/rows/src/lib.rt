@@ -8,6 +8,7 @@ ghost use Rattle.rows.specs.Rows.{behind, AllRows};
 ghost use Rattle.rows.specs.Inner.{Within, Gathered, LanesRight, RowsRight};
 
 use line::Run;
+use strip::Syndromes;
 
 // Whether every line of `count` runs is a codeword: of `run`, and of each next one, `gap` bytes behind the one before.
 pub fn codewords(s: &[u8], reduction: u8, run: Run, gap: usize, count: usize) -> bool
@@ -16,8 +17,7 @@ pub fn codewords(s: &[u8], reduction: u8, run: Run, gap: usize, count: usize) ->
     if count == 0 {
         return true;
     }
-    let n = s.len();
-    if !reaches(n, run.first, gap, count - 1) {
+    if !reaches(s.len(), run.first, gap, count - 1) {
         return false;
     }
     if run.width < 8 && 64 <= count {
@@ -31,25 +31,17 @@ pub fn codewords(s: &[u8], reduction: u8, run: Run, gap: usize, count: usize) ->
 fn reaches(n: usize, first: usize, gap: usize, q: usize) -> bool
     ensures { Decides (first + gap * q ≤ n) result }
 {
-    if n < first {
-        return false;
-    }
-    if q == 0 {
-        return true;
-    }
-    gap <= (n - first) / q
+    first <= n && (q == 0 || gap <= (n - first) / q)
 }
 
 fn one_by_one(s: &[u8], reduction: u8, run: Run, gap: usize, count: usize) -> bool
     requires { (0 < count) × (run.first + gap * (count - 1) ≤ length s.now) }
     ensures { Decides (AllRows reduction run gap count s.now) result }
 {
-    let mut q = 0;
-    while q < count {
+    for q in 0..count {
         if !line::codewords(s, reduction, moved(run, gap * q)) {
             return false;
         }
-        q += 1;
     }
     true
 }
@@ -59,10 +51,8 @@ fn gathered(s: &[u8], reduction: u8, run: Run, gap: usize, count: usize) -> bool
     requires { (64 ≤ count) × (run.first + gap * (count - 1) ≤ length s.now) }
     ensures { Decides (AllRows reduction run gap count s.now) result }
 {
-    if !line::codewords(s, reduction, moved(run, gap * (count - 1))) {
-        return false;
-    }
-    by_strips(s, reduction, run, gap, count)
+    line::codewords(s, reduction, moved(run, gap * (count - 1)))
+        && by_strips(s, reduction, run, gap, count)
 }
 
 // 64 rows at a time; the last 64 may reach back over rows that were looked at already.
@@ -71,12 +61,10 @@ fn by_strips(s: &[u8], reduction: u8, run: Run, gap: usize, count: usize) -> boo
     ensures { Decides (RowsRight reduction run gap 0 count s.now) result }
 {
     let last = count - 64;
-    let mut from = 0;
-    while from < last {
+    for from in (0..last).step_by(64) {
         if !strip_of_rows(s, reduction, moved(run, gap * from), gap) {
             return false;
         }
-        from += 64;
     }
     strip_of_rows(s, reduction, moved(run, gap * last), gap)
 }
@@ -86,13 +74,10 @@ fn strip_of_rows(s: &[u8], reduction: u8, run: Run, gap: usize) -> bool
     requires { Inside (behind run (gap * 63)) (length s.now) }
     ensures { Decides (RowsRight reduction run gap 0 64 s.now) result }
 {
-    let width = run.width;
-    let mut byte = 0;
-    while byte < width {
+    for byte in 0..run.width {
         if !lanes(s, reduction, moved(run, byte), gap) {
             return false;
         }
-        byte += 1;
     }
     true
 }
@@ -102,15 +87,11 @@ fn lanes(s: &[u8], reduction: u8, run: Run, gap: usize) -> bool
     requires { Within run gap (length s.now) }
     ensures { Decides (LanesRight reduction run gap s.now) result }
 {
-    let mut s0 = [0u8; 64];
-    let mut s1 = [0u8; 64];
-    let mut left = run.len;
-    while 0 < left {
-        left -= 1;
-        let c = gather(s, run.first + run.stride * left, gap);
-        strip::step(&mut s0, &mut s1, reduction, c);
+    let mut sums = Syndromes::zeros();
+    for i in (0..run.len).rev() {
+        sums.step(reduction, gather(s, run.first + run.stride * i, gap));
     }
-    strip::both_zero(s0, s1)
+    sums.both_zero()
 }
 
 // The 64 bytes from `at` on, `gap` bytes from one to the next.
@@ -119,10 +100,8 @@ fn gather(s: &[u8], at: usize, gap: usize) -> [u8; 64]
     ensures { Gathered s.now at gap result }
 {
     let mut c = [0u8; 64];
-    let mut t = 0;
-    while t < 64 {
+    for t in 0..64 {
         c[t] = s[at + gap * t];
-        t += 1;
     }
     c
 }
@@ -134,8 +113,6 @@ fn moved(run: Run, bytes: usize) -> Run
 {
     Run {
         first: run.first + bytes,
-        stride: run.stride,
-        len: run.len,
-        width: run.width,
+        ..run
     }
 }

@@ -6,17 +6,11 @@ use native.Mathlib.Nat.{mul-le-mul}
 use native.Mathlib.Omega.{arith}
 use lib.Dec.{leb}
 use borrow.Author.Tests.{leb-true, le-leb}
-use Rattle.answer.specs.declared.Refusal.{Refusal}
-use Rattle.answer.specs.Values.{passes, fails, check, checked, refusal}
-use Rattle.answer.proofs.Values.{check-passed, passes-injective, checked-passes, check-number, passes-number}
+use Rattle.answer.specs.Values.{passes, fails, check}
+use Rattle.answer.proofs.Values.{check-passed, passes-injective, check-number, passes-number}
 use Rattle.shape.specs.declared.Shape.{Shape}
 use Rattle.shape.specs.declared.Sizes.{Sizes}
-use Rattle.shape.specs.declared.Line.{Line}
-use Rattle.shape.specs.declared.Measured.{Measured}
-use Rattle.shape.specs.declared.Measured.TheVariants.{Fits, Refused}
-use Rattle.shape.specs.declared.LineAnswer.{LineAnswer}
-use Rattle.shape.specs.declared.LineAnswer.TheVariants.{Found, Refused as NoLine}
-use Rattle.shape.specs.Shapes.{both, within, lengths_fit, cells, sizes, shape_checked, measured_value, line_of, line_value, Valid}
+use Rattle.shape.specs.Shapes.{both, within, lengths_fit, cells, sizes, shape_checked, Valid}
 
 -- ---- the tests
 
@@ -104,27 +98,6 @@ shape-number sh n =
   where
     Low : ℕ → Type 0
     Low m = (1 ≤ m) × (m ≤ 3)
-
--- ---- what a caller of `measure` and of `axis_line` learns from its answer
-
-pub measure-fits : (sh : Shape) (r : Measured) (z : Sizes) → measured_value r ≡ checked (shape_checked sh) → r ≡ Fits z → shape_checked sh ≡ passes z
-unfolding measured_value
-measure-fits sh r z e p = checked-passes (shape_checked sh) z (rw p at e)
-
-pub measure-refused : (sh : Shape) (r : Measured) (f : Refusal) → measured_value r ≡ checked (shape_checked sh) → r ≡ Refused f
-    → refusal {A = Sizes} f ≡ checked (shape_checked sh)
-unfolding measured_value
-measure-refused sh r f e p = rw p at e
-
-pub line-told : (sh : Shape) (axis m : ℕ) (r : LineAnswer) (l : Line) → line_value r ≡ checked (line_of sh axis m) → r ≡ Found l
-    → line_of sh axis m ≡ passes l
-unfolding line_value
-line-told sh axis m r l e p = checked-passes (line_of sh axis m) l (rw p at e)
-
-pub line_refused : (sh : Shape) (axis m : ℕ) (r : LineAnswer) (f : Refusal) → line_value r ≡ checked (line_of sh axis m) → r ≡ NoLine f
-    → refusal {A = Line} f ≡ checked (line_of sh axis m)
-unfolding line_value
-line_refused sh axis m r f e p = rw p at e
 
 -- ---- the sizes fit a machine word
 

@@ -1,13 +1,9 @@
 -- The cube's shape (document 01, "Cube"): its limits, its sizes, its cells and the lines of its three axes.
 use Rattle.std.specs.Prelude.{Bool, false, cond, ℕ, ◌+◌, ◌-◌, ◌*◌, ◌/◌, ◌%◌, ◌≤◌, ◌<◌, leb, ltb}
-use Rattle.answer.specs.Values.{Value, gives, Checked, passes, check, and_then, refusal}
+use Rattle.answer.specs.Values.{Checked, passes, check, and_then}
 use Rattle.shape.specs.declared.Shape.{Shape}
 use Rattle.shape.specs.declared.Sizes.{Sizes}
 use Rattle.shape.specs.declared.Line.{Line}
-use Rattle.shape.specs.declared.Measured.{Measured}
-use Rattle.shape.specs.declared.Measured.TheVariants.{Fits, Refused}
-use Rattle.shape.specs.declared.LineAnswer.{LineAnswer}
-use Rattle.shape.specs.declared.LineAnswer.TheVariants.{Found, Refused as NoLine}
 
 -- "cells = L1 × L2 × L3"
 unfoldable pub cells : Shape → ℕ
@@ -52,11 +48,6 @@ shape_checked sh =
     check (lengths_fit sh) 1
     (check (within 1 1024 sh.w) 2
     (check (leb (sh.w * cells sh) 268435456) 3 (passes (sizes sh))))
-
--- what `measure` answers
-unfoldable pub measured_value : Measured → Value Sizes
-measured_value (Fits z) = gives z
-measured_value (Refused f) = refusal f
 
 -- "Cell (a,b,c) has number a + L1 × (b + L2 × c)"
 unfoldable pub cell : Shape → ℕ → ℕ → ℕ → ℕ
@@ -103,8 +94,3 @@ line_in sh axis m =
 -- Line m of an axis. A number that is no axis or no line of it is refused as 1; the axis is asked first, then the shape.
 unfoldable pub line_of : Shape → ℕ → ℕ → Checked Line
 line_of sh axis m = check (within 1 3 axis) 1 (and_then (shape_checked sh) (λ z. line_in sh axis m))
-
--- what `axis_line` answers
-unfoldable pub line_value : LineAnswer → Value Line
-line_value (Found l) = gives l
-line_value (NoLine f) = refusal f

@@ -1,8 +1,6 @@
 -- The two equations of a line (document 01, "Lines" and "Mending"): what its two syndromes say of two erasures, and of one error.
-use Rattle.std.specs.Prelude.{◌≡◌, Bool, true, false, ◌≢◌, ℕ, zero, suc, ◌<◌, eqb}
+use Rattle.std.specs.Prelude.{◌≡◌, Bool, true, false, ◌≢◌, ℕ, zero, suc, ◌<◌, eqb, Option, Some, None}
 use Rattle.field.specs.Field.{add, mul, pow, inverse}
-use Rattle.solver.specs.declared.Place.{Place}
-use Rattle.solver.specs.declared.Place.TheVariants.{At, Nowhere}
 
 unfoldable pub pick : Bool → ℕ → ℕ → ℕ
 pick true a b = a
@@ -30,6 +28,6 @@ error_place r v0 v1 (suc n) =
     pick (eqb (error_place r v0 v1 n) n) (pick (eqb v1 (mul r (pow r n) v0)) n (suc n)) (error_place r v0 v1 n)
 
 -- What `error_place` answers: the place of a single error, the first where there are more, or none.
-unfoldable pub PlaceOutcome : ℕ → ℕ → ℕ → ℕ → Place → Type 0
-PlaceOutcome r v0 v1 n (At j) = ErrorAt r v0 v1 n j × (error_place r v0 v1 n ≡ j)
-PlaceOutcome r v0 v1 n Nowhere = (j : ℕ) → ErrorAt r v0 v1 n j → ⊥
+unfoldable pub PlaceOutcome : ℕ → ℕ → ℕ → ℕ → Option ℕ → Type 0
+PlaceOutcome r v0 v1 n (Some j) = ErrorAt r v0 v1 n j × (error_place r v0 v1 n ≡ j)
+PlaceOutcome r v0 v1 n None = (j : ℕ) → ErrorAt r v0 v1 n j → ⊥

@@ -6,13 +6,6 @@ ghost use Rattle.std.specs.Prelude.{◌≡◌, [], ◌∷◌};
 ghost use Rattle.solver.specs.Solver.{row0, row1, PlaceOutcome};
 ghost use Rattle.solver.specs.Inner.Solver.{entry, inverted};
 
-// Where a single error stands on a line.
-#[derive(Clone, Copy)]
-pub enum Place {
-    At(usize),
-    Nowhere,
-}
-
 // The row of the inverted array that gives the byte at k. One erasure alone is the first syndrome.
 pub fn second_row(reduction: u8, j: usize, k: usize) -> [u8; 2]
     ensures { result ≡ row0 reduction j k ∷ row1 reduction j k ∷ [] }
@@ -23,17 +16,14 @@ pub fn second_row(reduction: u8, j: usize, k: usize) -> [u8; 2]
     let x = field::pow(reduction, j);
     let y = field::pow(reduction, k);
     let m = invert(reduction, [[1, 1], [x, y]]);
-    [m[1][0], m[1][1]]
+    m[1]
 }
 
 // The inverse of the array m, rows first; where its determinant is 0, all 0.
 fn invert(reduction: u8, m: [[u8; 2]; 2]) -> [[u8; 2]; 2]
     ensures { result ≡ inverted reduction (entry m 0 0) (entry m 0 1) (entry m 1 0) (entry m 1 1) }
 {
-    let a = m[0][0];
-    let b = m[0][1];
-    let c = m[1][0];
-    let d = m[1][1];
+    let [[a, b], [c, d]] = m;
     let determinant = field::mul(reduction, a, d) ^ field::mul(reduction, b, c);
     let e = field::inverse(reduction, determinant);
     [
@@ -42,32 +32,28 @@ fn invert(reduction: u8, m: [[u8; 2]; 2]) -> [[u8; 2]; 2]
     ]
 }
 
-// The place of a single error on a line of length n with the syndromes v0 and v1.
-pub fn error_place(reduction: u8, v0: u8, v1: u8, n: usize) -> Place
+// The place of a single error on a line of length n with the syndromes v0 and v1, or none.
+#[tactic(auto, unfolding(crate::specs::Solver::PlaceOutcome))]
+pub fn error_place(reduction: u8, v0: u8, v1: u8, n: usize) -> Option<usize>
     ensures { PlaceOutcome reduction v0 v1 n result }
 {
-    if v0 == 0 {
-        return Place::Nowhere;
-    }
-    if v1 == 0 {
-        return Place::Nowhere;
+    if v0 == 0 || v1 == 0 {
+        return None;
     }
     search(reduction, v0, v1, n)
 }
 
 // The first place below n at which v0, multiplied by the power of α, is v1.
-fn search(reduction: u8, v0: u8, v1: u8, n: usize) -> Place
+fn search(reduction: u8, v0: u8, v1: u8, n: usize) -> Option<usize>
     requires { (v0 ≡ 0 → ⊥) × (v1 ≡ 0 → ⊥) }
     ensures { PlaceOutcome reduction v0 v1 n result }
 {
     let mut p = v0;
-    let mut j = 0;
-    while j < n {
+    for j in 0..n {
         if p == v1 {
-            return Place::At(j);
+            return Some(j);
         }
         p = field::xtime(reduction, p);
-        j += 1;
     }
-    Place::Nowhere
+    None
 }

@@ -1,6 +1,8 @@
 -- The laws of the crate.
 -- Decision: answers that decide a statement, and calls that do their work where one holds.
 pub mod Decision
+-- Parts: a span as the list that it is.
+mod Parts
 -- Keeping: bytes outside a span are kept, through one change or several.
 pub mod Keeping
 -- Writing: one more byte of a span is written, whatever the bytes are to be.

@@ -4,9 +4,10 @@ use mathlib.Core.List.{List, [], ◌∷◌, ◌++◌}
 use Prim.Native.Nat.{ℕ, ◌+◌, ◌-◌, ◌≤◌, ◌<◌}
 use native.Mathlib.Decide.{dec_lt}
 use native.Mathlib.Omega.{arith}
-use lib.ListN.{length, get_or, set, take, drop, replicate, length-append, length-drop, length-replicate, get_or-replicate, get_or-append}
-use lib.Seq.{length-take-le, get_or-take, get_or-drop, get_or-append-add, ext_get_or}
+use lib.ListN.{length, get_or, set, take, drop, replicate, length-append, length-replicate, get_or-replicate, get_or-append}
+use lib.Seq.{get_or-append-add, ext_get_or}
 use Rattle.span.specs.Span.{Copied, SetTo, Put}
+use Rattle.span.proofs.Parts.{part-byte, part-length}
 use Rattle.span.proofs.Keeping.{kept-join}
 use Rattle.span.proofs.Copying.{copied_none, copied_more, copied-whole}
 
@@ -20,12 +21,12 @@ put_one s at v room = copied_more (v ∷ []) s s 0 at 0 at v (omega arith) refl 
 pub copied-put : {src before after : List ℕ} {from to n : ℕ} → from + n ≤ length src → Copied src from before to n after
     → Put before to (take n (drop from src)) after
 copied-put {src} {before} {after} {from} {to} {n} inside c =
-    let size : length (take n (drop from src)) ≡ n = length-take-le n (drop from src) (omega (arith, length-drop from src)) in
+    let size : length (take n (drop from src)) ≡ n = part-length src from n inside in
     record {
       copied = λ i l.
           let less : i < n = omega arith in
           let same : 0 + i ≡ i = omega arith in
-          rw same (c.copied i less ∙ sym (get_or-take n (drop from src) i 0 less ∙ get_or-drop from src i 0));
+          rw same (c.copied i less ∙ sym (part-byte src from n i less));
       kept = rw size c.kept;
     }
 

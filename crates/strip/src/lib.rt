@@ -2,33 +2,73 @@
 // so that the compiler sees that nothing else can change them and keeps them in registers. Every public function is total.
 #![tactic(auto)]
 
-ghost use Rattle.std.specs.Prelude.{◌≡◌, ◌⊎◌, ◌<◌, ◌≤◌};
+ghost use Rattle.std.specs.Prelude.{◌≡◌, ◌⊎◌, ◌<◌, ◌≤◌, replicate};
 ghost use Rattle.span.specs.Decision.{Decides};
 ghost use Rattle.strip.specs.Strip.{Step, Products, Sums, BothZero};
 
-// One of Horner's steps for both syndromes, by a place whose bytes are c.
-pub fn step(s0: &mut [u8; 64], s1: &mut [u8; 64], reduction: u8, c: [u8; 64])
-    ensures { Step reduction c s0.old s1.old s0.new s1.new }
-{
-    let mut t = 0;
-    while t < 64 {
-        s0[t] = s0[t] ^ c[t];
-        s1[t] = field::xtime(reduction, s1[t]) ^ c[t];
-        t += 1;
+// The first and the second syndrome of each of up to N lines.
+#[derive(Clone, Copy)]
+pub struct Syndromes<const N: usize> {
+    pub first: [u8; N],
+    pub second: [u8; N],
+}
+
+impl<const N: usize> Syndromes<N> {
+    // Those of lines of which no place is summed yet.
+    pub fn zeros() -> Syndromes<N>
+        ensures first { result.first ≡ replicate N 0 }
+        ensures second { result.second ≡ replicate N 0 }
+    {
+        Syndromes {
+            first: [0; N],
+            second: [0; N],
+        }
     }
 }
 
-// The byte at the later erasure of each line, from its syndromes and the row [b, d] of the inverted array.
-pub fn products(s0: [u8; 64], s1: [u8; 64], reduction: u8, b: u8, d: u8) -> [u8; 64]
-    ensures { Products reduction b d s0 s1 result }
-{
-    let mut y = [0u8; 64];
-    let mut t = 0;
-    while t < 64 {
-        y[t] = field::dot(reduction, s0[t], b, s1[t], d);
-        t += 1;
+impl Syndromes<64> {
+    // One of Horner's steps, by a place whose bytes are c.
+    pub fn step(&mut self, reduction: u8, c: [u8; 64])
+        ensures { Step reduction c self.old.first self.old.second self.new.first self.new.second }
+    {
+        for t in 0..64 {
+            self.first[t] ^= c[t];
+            self.second[t] = field::xtime(reduction, self.second[t]) ^ c[t];
+        }
     }
-    y
+
+    // The byte at the later erasure of each line, from its syndromes and the row [b, d] of the inverted array.
+    pub fn products(self, reduction: u8, b: u8, d: u8) -> [u8; 64]
+        ensures { Products reduction b d self.first self.second result }
+    {
+        let mut y = [0u8; 64];
+        for t in 0..64 {
+            y[t] = field::dot(reduction, self.first[t], b, self.second[t], d);
+        }
+        y
+    }
+
+    // Whether all are 00h: their bytes are joined by or, so that no line costs a branch.
+    pub fn both_zero(self) -> bool
+        ensures { Decides (BothZero 64 self.first self.second) result }
+    {
+        let mut any: u8 = 0;
+        for t in 0..64 {
+            any |= self.first[t] | self.second[t];
+        }
+        any == 0
+    }
+
+    // Whether those of the first n lines are 00h. All 64 are read and those behind count as 00h, so that the loop keeps its fixed length.
+    pub fn both_zero_below(self, n: u8) -> bool
+        ensures { Decides (BothZero n self.first self.second) result }
+    {
+        let mut any: u8 = 0;
+        for t in 0..64 {
+            any |= kept_below(self.first[t] | self.second[t], t as u8, n);
+        }
+        any == 0
+    }
 }
 
 // The sums of the bytes of two strips.
@@ -36,38 +76,10 @@ pub fn sums(a: [u8; 64], b: [u8; 64]) -> [u8; 64]
     ensures { Sums a b result }
 {
     let mut c = [0u8; 64];
-    let mut t = 0;
-    while t < 64 {
+    for t in 0..64 {
         c[t] = a[t] ^ b[t];
-        t += 1;
     }
     c
-}
-
-// Whether both strips are 00h: their bytes are joined by or, so that no line costs a branch.
-pub fn both_zero(s0: [u8; 64], s1: [u8; 64]) -> bool
-    ensures { Decides (BothZero 64 s0 s1) result }
-{
-    let mut any: u8 = 0;
-    let mut t = 0;
-    while t < 64 {
-        any = any | (s0[t] | s1[t]);
-        t += 1;
-    }
-    any == 0
-}
-
-// Whether the first n bytes of both strips are 00h. All 64 are read and those behind count as 00h, so that the loop keeps its fixed length.
-pub fn both_zero_below(s0: [u8; 64], s1: [u8; 64], n: u8) -> bool
-    ensures { Decides (BothZero n s0 s1) result }
-{
-    let mut any: u8 = 0;
-    let mut t = 0;
-    while t < 64 {
-        any = any | kept_below(s0[t] | s1[t], t as u8, n);
-        t += 1;
-    }
-    any == 0
 }
 
 // The byte of a place below n, 00h for another.

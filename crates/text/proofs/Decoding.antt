@@ -1,5 +1,6 @@
 -- The second turn over a text: its first turn told it whole, bytes are decoded one by one, a line becomes its packet, and the packets of all
 -- lines the pack.
+use Rattle.std.specs.Prelude.{Result, Ok, Err, Option, Some, None}
 use mathlib.Core.Path.{◌≡◌, refl, sym, ap, ◌∙◌}
 use mathlib.Core.Logic.{inl}
 use mathlib.Core.List.{List, [], ◌∷◌, ◌++◌, append-nil}
@@ -20,35 +21,34 @@ use Rattle.pack.specs.Packs.{Packet, packet_bytes, packets, air_pack, air_head, 
 use Rattle.pack.specs.Packets.{packet_no}
 use Rattle.pack.specs.Reading.{header_with, header_for}
 use Rattle.pack.proofs.Written.{Sized, packets-length, packets-append, air-laid, air-length}
-use Rattle.pack_writer.specs.declared.AirStart.{AirStart}
-use Rattle.pack_writer.specs.declared.AirStart.TheVariants.{Started, Refused as NoStart}
 use Rattle.pack_writer.proofs.Laying.{laid-laid}
+use Rattle.answer.proofs.Tuples.{some-four}
 use Rattle.answer.specs.declared.Refusal.{Refusal}
-use Rattle.answer.specs.Values.{Value, gives, refused, refused_at, Checked, passes, fails, check, checked, and_then, refusal}
+use Rattle.answer.specs.declared.Refusal.TheVariants.{Line}
+use Rattle.answer.specs.Values.{Value, gives, refused, refused_at, Checked, passes, fails, check, checked, and_then, refusal, value_of}
 use Rattle.answer.proofs.Values.{passes-fails, refusal-gives, checked-fails}
-use Rattle.pack_writer.specs.Writing.{air_size_checked, start_checked, start_value, StartOutcome, start_refused, started, Laid}
+use Rattle.pack_writer.specs.Writing.{air_size_checked, start_checked, StartOutcome, start_refused, started, Laid}
 use Rattle.text.specs.Form.{packet_line, packet_lines, first_line, text_of, Formed, Broken}
 use Rattle.text.specs.Text.{ReadTextOutcome, read_refused, read_outside, read_done, PackSizeOutcome, size_found}
 use Rattle.text.specs.Inner.Lines.{hex_value, pair_byte, pair_bytes, HexLine, ThreeOutcome}
 use Rattle.text.specs.Inner.Scan.{Scanning, ScanOutcome, scan_whole, scan_broken}
 use Rattle.text.specs.Inner.Reader.{Read, LineOf}
-use Rattle.text.specs.declared.lines.ThreeRead.{ThreeRead}
-use Rattle.text.specs.declared.lines.ThreeRead.TheVariants.{Three, Nothing as NoThree}
 use Rattle.text.specs.declared.reader.Turn.{Turn}
 use Rattle.text.specs.declared.scan.Contents.{Contents}
-use Rattle.text.specs.declared.scan.Scanned.{Scanned}
-use Rattle.text.specs.declared.scan.Scanned.TheVariants.{Whole, Broken as BrokenAt}
 use Rattle.text.proofs.Hexadecimal.{pairs-byte, pairs-length}
 use Rattle.text.proofs.FirstTurn.{line-some}
 use Rattle.text.proofs.SecondTurn.{line-rest, line_first, LineRead, line_read}
 
 -- ---- what the first turn told
 
-pub scanned-broken : {t : List ℕ} (r : Scanned) (n : ℕ) → ScanOutcome t r → r ≡ BrokenAt n → Broken t n
-scanned-broken {t} r n (scan_whole s ks h) e = let z : ◌≡◌ {A = ℕ} 0 1 = cc in absurd (omega arith)
-scanned-broken {t} r n (scan_broken m b) e = let same : m ≡ n = cc in rw (sym same) b
+-- the first turn's refusal, as the answer of any call
+pub scanned-broken : {A : Type 0} {t : List ℕ} (r : Result Contents Refusal) (f : Refusal) → ScanOutcome t r → r ≡ Err f
+    → (n : ℕ) × (refusal {A = A} f ≡ refused_at 17 n) × Broken t n
+unfolding refusal
+scanned-broken r f (scan_whole s ks h) e = let z : ◌≡◌ {A = ℕ} 0 1 = cc in absurd (omega arith)
+scanned-broken {A} r f (scan_broken n b) e = let same : Line n ≡ f = cc in (n, sym (ap (refusal {A = A}) same), b)
 
-pub scanned-whole : {t : List ℕ} (r : Scanned) (s : Contents) → ScanOutcome t r → r ≡ Whole s → Read t s
+pub scanned-whole : {t : List ℕ} (r : Result Contents Refusal) (s : Contents) → ScanOutcome t r → r ≡ Ok s → Read t s
 scanned-whole {t} r s (scan_whole s' ks h) e = let same : s' ≡ s = cc in rw (sym same) (record { list = ks; scanning = h })
 scanned-whole {t} r s (scan_broken m b) e = let z : ◌≡◌ {A = ℕ} 0 1 = cc in absurd (omega arith)
 
@@ -102,25 +102,25 @@ pub line-below : {w : ℕ} {t : List ℕ} {at : ℕ} {k : Packet} {rest : List �
 line-below {w} {t} {at} {k} {rest} l =
     omega (arith, length-drop at t, ap length l.stands, length-append (packet_line k) rest, line-some k)
 
-module _ {w : ℕ} {t : List ℕ} {at : ℕ} {k : Packet} {rest : List ℕ} (l : LineOf w t at k rest) (r : ThreeRead)
+module _ {w : ℕ} {t : List ℕ} {at : ℕ} {k : Packet} {rest : List ℕ} (l : LineOf w t at k rest) (r : Option (ℕ × ℕ × ℕ × ℕ))
     (three : ThreeOutcome (ascii "packet ") t at r) where
   read_again : LineRead w t at k rest r
   read_again = line_read w t at k rest r l.formed l.stands three
 
-  pub line-refuted : r ≡ NoThree → ⊥
+  pub line-refuted : r ≡ None → ⊥
   line-refuted e = let answer = read_again.answer in let z : ◌≡◌ {A = ℕ} 0 1 = cc in omega arith
 
   -- its numbers, and the bytes behind them
-  pub line-again : (a b c end : ℕ) → r ≡ Three a b c end
+  pub line-again : (a b c end : ℕ) → r ≡ Some (a, b, c, end)
       → (a ≡ k.a) × (b ≡ k.b) × (c ≡ k.c) × HexLine w t end × (k.bytes ≡ pair_bytes t end w) × (rest ≡ drop (end + 3 * w + 1) t)
   line-again a b c end e =
       let q = read_again in
       let answer = q.answer in
-      let same : q.end ≡ end = cc in
-      (cc, cc, cc, rw same at q.hex, rw same at q.bytes, rw same at q.behind)
+      let (ea, eb, ec, same) = some-four a k.a b k.b c k.c end q.end (sym e ∙ answer) in
+      (ea, eb, ec, rw (← same) at q.hex, rw (← same) at q.bytes, rw (← same) at q.behind)
 
   -- the packet: its coordinates, then its bytes
-  pub packet-put : {before mid after : List ℕ} {c₀ cell : Cursor} (a b c end : ℕ) → r ≡ Three a b c end → Laid before c₀ (a ∷ b ∷ c ∷ []) mid cell
+  pub packet-put : {before mid after : List ℕ} {c₀ cell : Cursor} (a b c end : ℕ) → r ≡ Some (a, b, c, end) → Laid before c₀ (a ∷ b ∷ c ∷ []) mid cell
       → Put mid cell.at (pair_bytes t end w) after
       → Laid before c₀ (packet_bytes k) after (record { at = cell.at + w }) × (rest ≡ drop (end + 3 * w + 1) t)
   unfolding packet_bytes
@@ -187,10 +187,6 @@ module _ (t : List ℕ) (w : ℕ) (before : List ℕ) (turn₀ : Turn) (i : ℕ)
         rw (packets-taken ks i (omega arith)) (laid-laid laid packet),
       )
 
-  pub turned-size : (sh : Shape) (ks : List Packet) → Lines t w turn₀.at sh ks → i ≤ length ks → length mid ≡ length before
-  unfolding Turned
-  turned-size sh ks l few = (turned sh ks l few).1.put.kept.size
-
   -- no line is left
   pub turned-all : (sh : Shape) (ks : List Packet) → Lines t w turn₀.at sh ks → i ≡ length ks → Put before turn₀.next.at (packets ks) mid
   unfolding Turned
@@ -215,19 +211,19 @@ read-lines {t} {s} ks h all l1 l2 l3 =
 -- ---- the pack
 
 -- `start_air` where the checks have passed
-module _ {sh : Shape} {n : ℕ} {before after : List ℕ} (r : AirStart) (start : StartOutcome sh n before after (start_value r))
+module _ {sh : Shape} {n : ℕ} {before after : List ℕ} (r : Result Cursor Refusal) (start : StartOutcome sh n before after (value_of r))
     (passed : start_checked sh n (length before) ≡ passes tt) where
-  pub start-told : (c : Cursor) → r ≡ Started c → Laid before (record { at = 0 }) (air_head (header_for sh) n) after c
-  unfolding start_value
-  start-told c e = told _ start (ap start_value e)
+  pub start-told : (c : Cursor) → r ≡ Ok c → Laid before (record { at = 0 }) (air_head (header_for sh) n) after c
+  unfolding value_of
+  start-told c e = told _ start (ap value_of e)
     where
       told : (v : Value Cursor) → StartOutcome sh n before after v → v ≡ gives c → Laid before (record { at = 0 }) (air_head (header_for sh) n) after c
       told _ (start_refused number fail kept) q = absurd (passes-fails tt number (sym passed ∙ fail))
       told _ (started d _ l) q = let same : d ≡ c = cc in rw same at l
 
-  pub start-refuted : (f : Refusal) → r ≡ NoStart f → ⊥
-  unfolding start_value
-  start-refuted f e = refuted _ start (ap start_value e)
+  pub start-refuted : (f : Refusal) → r ≡ Err f → ⊥
+  unfolding value_of
+  start-refuted f e = refuted _ start (ap value_of e)
     where
       refuted : (v : Value Cursor) → StartOutcome sh n before after v → v ≡ refusal f → ⊥
       refuted _ (start_refused number fail kept) q = passes-fails tt number (sym passed ∙ fail)

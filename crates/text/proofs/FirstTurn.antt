@@ -1,4 +1,5 @@
 -- The first turn over a text: the packets read so far, one more, all of them, or a line that breaks the form.
+use Rattle.std.specs.Prelude.{Ok, Err, Option, Some, None}
 use mathlib.Core.Path.{◌≡◌, refl, sym, ap, ◌∙◌}
 use mathlib.Core.Logic.{◌⊎◌, inl, inr}
 use mathlib.Core.List.{List, [], ◌∷◌, ◌++◌, append_assoc, append-nil}
@@ -7,6 +8,8 @@ use native.Mathlib.Omega.{arith}
 use lib.ListN.{length, drop, length-append, length-drop, drop_of_length-le, get_or-append}
 use lib.Seq.{get_or-append_seam}
 use borrow.Author.Count.{below_more}
+use Rattle.answer.proofs.Tuples.{some-four}
+use Rattle.answer.specs.declared.Refusal.TheVariants.{Line}
 use Rattle.shape.specs.declared.Shape.{Shape}
 use Rattle.pack.specs.Packs.{Packet}
 use Rattle.pack.specs.Packets.{packet_no}
@@ -16,35 +19,22 @@ use Rattle.text.specs.Text.{Inside}
 use Rattle.text.specs.Inner.Numbers.{Found, Never}
 use Rattle.text.specs.Inner.Lines.{Any, PacketLineOutcome, packet_found, packet_nothing, ShapeLineOutcome, shape_found, shape_nothing}
 use Rattle.text.specs.Inner.Scan.{FirstOut, ScanOutcome, scan_whole, scan_broken, InsideNext, one_before, this_one, none_yet}
-use Rattle.text.specs.declared.lines.PacketLine.{PacketLine}
-use Rattle.text.specs.declared.lines.PacketLine.TheVariants.{Line as APacket, Nothing as NoPacket}
-use Rattle.text.specs.declared.lines.ShapeLine.{ShapeLine}
-use Rattle.text.specs.declared.lines.ShapeLine.TheVariants.{Line as AShape, Nothing as NoShape}
-use Rattle.text.specs.declared.scan.Scanned.TheVariants.{Whole, Broken as BrokenAt}
 use Rattle.text.proofs.Standing.{stands-end}
 
 -- ---- what a line's answer tells
 
-pub shape-some : {t : List ℕ} (r : ShapeLine) (sh : Shape) (end : ℕ) → ShapeLineOutcome t r → r ≡ AShape sh end
-    → Found first_line Numbers Any t 0 sh end
-shape-some _ sh end (shape_found sh' end' f) e =
-    let same : sh' ≡ sh = cc in
-    let ends : end' ≡ end = cc in
-    rw (same, ends) at f
-shape-some _ sh end (shape_nothing n) e = let z : ◌≡◌ {A = ℕ} 0 1 = cc in absurd (omega arith)
-
-pub shape-none : {t : List ℕ} (r : ShapeLine) → ShapeLineOutcome t r → r ≡ NoShape → ScanOutcome t (BrokenAt 1)
+pub shape-none : {t : List ℕ} (r : Option (Shape × ℕ)) → ShapeLineOutcome t r → r ≡ None → ScanOutcome t (Err (Line 1))
 shape-none _ (shape_found sh end f) e = let z : ◌≡◌ {A = ℕ} 0 1 = cc in absurd (omega arith)
 shape-none _ (shape_nothing n) e = scan_broken 1 (first_broken (λ sh rest f. n sh rest f tt))
 
-pub packet-some : {w : ℕ} {t : List ℕ} {at : ℕ} (r : PacketLine) (a b c end : ℕ) → PacketLineOutcome w t at r → r ≡ APacket a b c end
+pub packet-some : {w : ℕ} {t : List ℕ} {at : ℕ} (r : Option (ℕ × ℕ × ℕ × ℕ)) (a b c end : ℕ) → PacketLineOutcome w t at r → r ≡ Some (a, b, c, end)
     → (k : Packet) × (k.a ≡ a) × (k.b ≡ b) × (k.c ≡ c) × Found packet_line (Formed w) Any t at k end
 packet-some _ a b c end (packet_found k end' f) e =
-    let ends : end' ≡ end = cc in
-    (k, cc, cc, cc, rw ends at f)
+    let (ea, eb, ec, ends) = some-four _ a _ b _ c _ end e in
+    (k, ea, eb, ec, rw ends at f)
 packet-some _ a b c end (packet_nothing n) e = let z : ◌≡◌ {A = ℕ} 0 1 = cc in absurd (omega arith)
 
-pub packet-none : {w : ℕ} {t : List ℕ} {at : ℕ} (r : PacketLine) → PacketLineOutcome w t at r → r ≡ NoPacket
+pub packet-none : {w : ℕ} {t : List ℕ} {at : ℕ} (r : Option (ℕ × ℕ × ℕ × ℕ)) → PacketLineOutcome w t at r → r ≡ None
     → Never packet_line (Formed w) Any t at
 packet-none _ (packet_found k end f) e = let z : ◌≡◌ {A = ℕ} 0 1 = cc in absurd (omega arith)
 packet-none _ (packet_nothing n) e = n
@@ -130,13 +120,13 @@ module _ (t : List ℕ) (sh : Shape) (lines : ℕ) where
       }
 
   module _ (at n inside : ℕ) (s : SoFar t sh lines at n inside) where
-    pub line-ends : (r : PacketLine) (a b c end : ℕ) → PacketLineOutcome sh.w t at r → r ≡ APacket a b c end → (at < end) × (end ≤ length t)
+    pub line-ends : (r : Option (ℕ × ℕ × ℕ × ℕ)) (a b c end : ℕ) → PacketLineOutcome sh.w t at r → r ≡ Some (a, b, c, end) → (at < end) × (end ≤ length t)
     line-ends r a b c end o e =
         let (k, ea, eb, ec, f) = packet-some r a b c end o e in
         let i = f.inside in
         (omega (arith, line-some k, stands-end t (packet_line k) at end f.low i f.stands), i)
 
-    pub more-so-far : (r : PacketLine) (a b c end m : ℕ) → n < 4294967295 → PacketLineOutcome sh.w t at r → r ≡ APacket a b c end
+    pub more-so-far : (r : Option (ℕ × ℕ × ℕ × ℕ)) (a b c end m : ℕ) → n < 4294967295 → PacketLineOutcome sh.w t at r → r ≡ Some (a, b, c, end)
         → InsideNext sh n inside a b c m → SoFar t sh lines end (n + 1) m
     unfolding packet_lines
     more-so-far r a b c end m l o e i =
@@ -172,7 +162,7 @@ module _ (t : List ℕ) (sh : Shape) (lines : ℕ) where
         ∙ sym (append_assoc (first_line sh) (packet_lines s.list) (drop at t)))
 
     pub whole-so-far : length t ≤ at
-        → ScanOutcome t (Whole (record { shape = sh; packets = n; inside = inside; lines = lines }))
+        → ScanOutcome t (Ok (record { shape = sh; packets = n; inside = inside; lines = lines }))
     whole-so-far l =
         scan_whole (record { shape = sh; packets = n; inside = inside; lines = lines }) s.list
         (record {
@@ -184,7 +174,7 @@ module _ (t : List ℕ) (sh : Shape) (lines : ℕ) where
         })
 
     pub broken-so-far : (m : ℕ) → at < length t → m ≡ n + 2 → (n ≡ 4294967295) ⊎ Never packet_line (Formed sh.w) Any t at
-        → ScanOutcome t (BrokenAt m)
+        → ScanOutcome t (Err (Line m))
     broken-so-far m l e why =
         let line : length s.list + 2 ≡ m = let z = s.size in omega arith in
         scan_broken m

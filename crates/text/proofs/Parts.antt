@@ -1,9 +1,12 @@
 -- The parts of a line put together: a label and a number, three numbers, a packet's line, the line of the shape.
+use Rattle.std.specs.Prelude.{Option, Some, None}
 use mathlib.Core.Path.{◌≡◌, refl, sym, ap, ◌∙◌}
 use mathlib.Core.List.{List, [], ◌∷◌, ◌++◌, append_assoc, append_cancel_left}
 use Prim.Native.Nat.{ℕ, ◌+◌, ◌*◌, ◌≤◌}
 use native.Mathlib.Omega.{arith}
 use lib.ListN.{length, drop}
+use Rattle.answer.proofs.Tuples.{some-four}
+use Rattle.std.proofs.lemmas.Option.{some_pair_parts}
 use Rattle.span.specs.Span.{SameBytes}
 use Rattle.shape.specs.declared.Shape.{Shape}
 use Rattle.pack.specs.Packs.{Packet}
@@ -11,41 +14,31 @@ use Rattle.printing.specs.Text.{ascii, decimal, numbered, triple, number_line, s
 use Rattle.text.specs.Form.{hex_bytes, packet_line, first_line}
 use Rattle.text.specs.Inner.Numbers.{NoDigit, Short, Found, Never, NumberOutcome, number_found, number_nothing}
 use Rattle.text.specs.Inner.Lines.{Any, Bytes, HexLine, three_of, ThreeShort, ThreeOutcome, three_found, three_nothing, PacketLineOutcome, packet_found, packet_nothing, ShapeLineOutcome, shape_found, shape_nothing, pair_bytes}
-use Rattle.text.specs.declared.numbers.NumberRead.{NumberRead}
-use Rattle.text.specs.declared.numbers.NumberRead.TheVariants.{Number, Nothing}
-use Rattle.text.specs.declared.lines.ThreeRead.{ThreeRead}
-use Rattle.text.specs.declared.lines.ThreeRead.TheVariants.{Three, Nothing as NoThree}
-use Rattle.text.specs.declared.lines.PacketLine.TheVariants.{Line as APacket, Nothing as NoPacket}
-use Rattle.text.specs.declared.lines.ShapeLine.TheVariants.{Line as AShape, Nothing as NoShape}
 use Rattle.text.proofs.Standing.{get_or-place, stands_by, stands-inside, stands_char, then_found, first-never, second-never}
 use Rattle.text.proofs.Hexadecimal.{hex-line-found, hex-line-never}
 
 -- ---- what an answer tells
 
-pub number-some : {p : ℕ → List ℕ} {t : List ℕ} {at : ℕ} (r : NumberRead) (v end : ℕ) → NumberOutcome p t at r → r ≡ Number v end
+pub number-some : {p : ℕ → List ℕ} {t : List ℕ} {at : ℕ} (r : Option (ℕ × ℕ)) (v end : ℕ) → NumberOutcome p t at r → r ≡ Some (v, end)
     → Found p Short NoDigit t at v end
 number-some _ v end (number_found v' end' f) e =
-    let same : v' ≡ v = cc in
-    let ends : end' ≡ end = cc in
+    let (same, ends) = some_pair_parts _ v _ end e in
     rw (same, ends) at f
 number-some _ v end (number_nothing n) e = let z : ◌≡◌ {A = ℕ} 0 1 = cc in absurd (omega arith)
 
-pub number-none : {p : ℕ → List ℕ} {t : List ℕ} {at : ℕ} (r : NumberRead) → NumberOutcome p t at r → r ≡ Nothing
+pub number-none : {p : ℕ → List ℕ} {t : List ℕ} {at : ℕ} (r : Option (ℕ × ℕ)) → NumberOutcome p t at r → r ≡ None
     → Never p Short NoDigit t at
 number-none _ (number_found v end f) e = let z : ◌≡◌ {A = ℕ} 0 1 = cc in absurd (omega arith)
 number-none _ (number_nothing n) e = n
 
-pub three-some : {label t : List ℕ} {at : ℕ} (r : ThreeRead) (a b c end : ℕ) → ThreeOutcome label t at r → r ≡ Three a b c end
+pub three-some : {label t : List ℕ} {at : ℕ} (r : Option (ℕ × ℕ × ℕ × ℕ)) (a b c end : ℕ) → ThreeOutcome label t at r → r ≡ Some (a, b, c, end)
     → Found (three_of label) ThreeShort NoDigit t at (a, (b, c)) end
 three-some _ a b c end (three_found a' b' c' end' f) e =
-    let ea : a' ≡ a = cc in
-    let eb : b' ≡ b = cc in
-    let ec : c' ≡ c = cc in
-    let ends : end' ≡ end = cc in
+    let (ea, eb, ec, ends) = some-four _ a _ b _ c _ end e in
     rw (ea, eb, ec, ends) at f
 three-some _ a b c end (three_nothing n) e = let z : ◌≡◌ {A = ℕ} 0 1 = cc in absurd (omega arith)
 
-pub three-none : {label t : List ℕ} {at : ℕ} (r : ThreeRead) → ThreeOutcome label t at r → r ≡ NoThree
+pub three-none : {label t : List ℕ} {at : ℕ} (r : Option (ℕ × ℕ × ℕ × ℕ)) → ThreeOutcome label t at r → r ≡ None
     → Never (three_of label) ThreeShort NoDigit t at
 three-none _ (three_found a b c end f) e = let z : ◌≡◌ {A = ℕ} 0 1 = cc in absurd (omega arith)
 three-none _ (three_nothing n) e = n
@@ -60,12 +53,12 @@ module _ (label t : List ℕ) (at : ℕ) where
         bytes = λ i k. stands_char t label at rest e i k ∙ get_or-place label i (0 + i) (omega arith);
       }
 
-  pub label-never : at ≤ length t → (SameBytes t at label 0 (length label) → ⊥) → NumberOutcome (numbered label) t at Nothing
+  pub label-never : at ≤ length t → (SameBytes t at label 0 (length label) → ⊥) → NumberOutcome (numbered label) t at None
   unfolding numbered
   label-never l h =
       number_nothing (λ (n : ℕ) (rest : List ℕ) s d e. h (same-label (decimal n ++ rest) l (e ∙ append_assoc label (decimal n) rest)))
 
-  pub label-found : (r : NumberRead) → SameBytes t at label 0 (length label) → NumberOutcome decimal t (at + length label) r
+  pub label-found : (r : Option (ℕ × ℕ)) → SameBytes t at label 0 (length label) → NumberOutcome decimal t (at + length label) r
       → NumberOutcome (numbered label) t at r
   unfolding numbered
   label-found _ same (number_found v end f) =
@@ -106,24 +99,24 @@ unfolding numbered
 two-no-digit z rest h = absurd (omega arith)
 
 module _ (label t : List ℕ) (at : ℕ) where
-  pub first-nothing : Never (numbered label) Short NoDigit t at → ThreeOutcome label t at NoThree
+  pub first-nothing : Never (numbered label) Short NoDigit t at → ThreeOutcome label t at None
   unfolding triple
   first-nothing never = three_nothing (first-never (numbered label) two_spaced Short TwoShort NoDigit NoDigit two-no-digit t at never)
 
   module _ (a mid : ℕ) (f : Found (numbered label) Short NoDigit t at a mid) where
-    behind-nothing : Never two_spaced TwoShort NoDigit t mid → ThreeOutcome label t at NoThree
+    behind-nothing : Never two_spaced TwoShort NoDigit t mid → ThreeOutcome label t at None
     unfolding triple
     behind-nothing never =
         three_nothing (second-never (numbered label) two_spaced Short TwoShort NoDigit NoDigit two-no-digit t at a mid f never)
 
-    pub second-nothing : Never spaced Short NoDigit t mid → ThreeOutcome label t at NoThree
+    pub second-nothing : Never spaced Short NoDigit t mid → ThreeOutcome label t at None
     second-nothing never = behind-nothing (first-never spaced spaced Short Short NoDigit NoDigit space-no-digit t mid never)
 
     module _ (b last : ℕ) (g : Found spaced Short NoDigit t mid b last) where
-      pub third-nothing : Never spaced Short NoDigit t last → ThreeOutcome label t at NoThree
+      pub third-nothing : Never spaced Short NoDigit t last → ThreeOutcome label t at None
       third-nothing never = behind-nothing (second-never spaced spaced Short Short NoDigit NoDigit space-no-digit t mid b last g never)
 
-      pub three-read : (c end : ℕ) → Found spaced Short NoDigit t last c end → ThreeOutcome label t at (Three a b c end)
+      pub three-read : (c end : ℕ) → Found spaced Short NoDigit t last c end → ThreeOutcome label t at (Some (a, b, c, end))
       unfolding triple
       three-read c end h =
           three_found a b c end (then_found (numbered label) two_spaced Short TwoShort NoDigit NoDigit two-no-digit t at a (b, c) mid end f
@@ -146,23 +139,23 @@ module _ (w : ℕ) (t : List ℕ) (at : ℕ) where
 
   -- a packet as its parts
   packet-never : Never {A = (ℕ × (ℕ × ℕ)) × List ℕ} (λ z. packet_numbers z.0 ++ line_end z.1) (λ z. ThreeShort z.0 × Bytes w z.1) Any t at
-      → PacketLineOutcome w t at NoPacket
+      → PacketLineOutcome w t at None
   unfolding packet_line
   packet-never never =
       packet_nothing (λ (k : Packet) (rest : List ℕ) f u e.
       never ((k.a, (k.b, k.c)), k.bytes) rest ((f.a_digits, (f.b_digits, f.c_digits)), (f.size, f.bytes)) u e)
 
-  pub packet-numbers-none : Never packet_numbers ThreeShort NoDigit t at → PacketLineOutcome w t at NoPacket
+  pub packet-numbers-none : Never packet_numbers ThreeShort NoDigit t at → PacketLineOutcome w t at None
   packet-numbers-none never =
       packet-never (first-never packet_numbers line_end ThreeShort (Bytes w) NoDigit Any end-no-digit t at never)
 
   module _ (a b c mid : ℕ) (f : Found packet_numbers ThreeShort NoDigit t at (a, (b, c)) mid) where
-    pub packet-bytes-none : (HexLine w t mid → ⊥) → PacketLineOutcome w t at NoPacket
+    pub packet-bytes-none : (HexLine w t mid → ⊥) → PacketLineOutcome w t at None
     packet-bytes-none h =
         packet-never (second-never packet_numbers line_end ThreeShort (Bytes w) NoDigit Any end-no-digit t at (a, (b, c)) mid f
         (hex-line-never w t mid f.inside h))
 
-    pub packet-read : HexLine w t mid → PacketLineOutcome w t at (APacket a b c (mid + 3 * w + 1))
+    pub packet-read : HexLine w t mid → PacketLineOutcome w t at (Some (a, b, c, (mid + 3 * w + 1)))
     unfolding packet_line
     packet-read h =
         let bs = pair_bytes t mid w in
@@ -202,31 +195,31 @@ width-no-digit z rest h = absurd (omega arith)
 
 module _ (t : List ℕ) where
   shape-never : Never {A = (ℕ × (ℕ × ℕ)) × (ℕ × List ℕ)} (λ z. shape_numbers z.0 ++ width_end z.1) (λ z. ThreeShort z.0 × WidthShort z.1) Any t 0
-      → ShapeLineOutcome t NoShape
+      → ShapeLineOutcome t None
   unfolding first_line shape_line number_line hex_bytes
   shape-never never =
       shape_nothing (λ (sh : Shape) (rest : List ℕ) f u e.
       never ((sh.l1, (sh.l2, sh.l3)), (sh.w, [])) rest
       ((f.l1_digits, (f.l2_digits, f.l3_digits)), (f.w_digits, (refl, λ i. omega arith))) u e)
 
-  pub lengths_none : Never shape_numbers ThreeShort NoDigit t 0 → ShapeLineOutcome t NoShape
+  pub lengths_none : Never shape_numbers ThreeShort NoDigit t 0 → ShapeLineOutcome t None
   lengths_none never = shape-never (first-never shape_numbers width_end ThreeShort WidthShort NoDigit Any width-no-digit t 0 never)
 
   module _ (l1 l2 l3 mid : ℕ) (f : Found shape_numbers ThreeShort NoDigit t 0 (l1, (l2, l3)) mid) where
-    behind-lengths : Never width_end WidthShort Any t mid → ShapeLineOutcome t NoShape
+    behind-lengths : Never width_end WidthShort Any t mid → ShapeLineOutcome t None
     behind-lengths never =
         shape-never (second-never shape_numbers width_end ThreeShort WidthShort NoDigit Any width-no-digit t 0 (l1, (l2, l3)) mid f never)
 
-    pub width-none : Never spaced Short NoDigit t mid → ShapeLineOutcome t NoShape
+    pub width-none : Never spaced Short NoDigit t mid → ShapeLineOutcome t None
     width-none never = behind-lengths (first-never spaced line_end Short (Bytes 0) NoDigit Any end-no-digit t mid never)
 
     module _ (w last : ℕ) (g : Found spaced Short NoDigit t mid w last) where
-      pub line-end-none : (HexLine 0 t last → ⊥) → ShapeLineOutcome t NoShape
+      pub line-end-none : (HexLine 0 t last → ⊥) → ShapeLineOutcome t None
       line-end-none h =
           behind-lengths (second-never spaced line_end Short (Bytes 0) NoDigit Any end-no-digit t mid w last g
           (hex-line-never 0 t last g.inside h))
 
-      pub shape-read : HexLine 0 t last → ShapeLineOutcome t (AShape (record { l1 = l1; l2 = l2; l3 = l3; w = w }) (last + 1))
+      pub shape-read : HexLine 0 t last → ShapeLineOutcome t (Some ((record { l1 = l1; l2 = l2; l3 = l3; w = w }), (last + 1)))
       unfolding first_line shape_line number_line hex_bytes pair_bytes
       shape-read h =
           let place : last + 3 * 0 + 1 ≡ last + 1 = omega arith in

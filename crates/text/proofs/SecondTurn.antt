@@ -1,4 +1,5 @@
 -- What a second turn over a text in the form finds: the line of each packet at its place, its numbers and its bytes.
+use Rattle.std.specs.Prelude.{Option, Some}
 use mathlib.Core.Path.{◌≡◌, sym, ap, ◌∙◌}
 use mathlib.Core.List.{List, ◌++◌, append_assoc}
 use Prim.Native.Nat.{ℕ, ◌+◌, ◌*◌, ◌≤◌}
@@ -11,8 +12,6 @@ use Rattle.printing.specs.Text.{ascii}
 use Rattle.text.specs.Form.{packet_line, packet_lines, first_line, text_of, Formed}
 use Rattle.text.specs.Inner.Lines.{HexLine, three_of, ThreeOutcome, three_found, three_nothing, pair_bytes}
 use Rattle.text.specs.Inner.Scan.{line_at}
-use Rattle.text.specs.declared.lines.ThreeRead.{ThreeRead}
-use Rattle.text.specs.declared.lines.ThreeRead.TheVariants.{Three}
 use Rattle.text.proofs.Standing.{found-behind}
 use Rattle.text.proofs.Hexadecimal.{hex-line-of}
 use Rattle.text.proofs.Parts.{line_end, end-no-digit}
@@ -39,15 +38,15 @@ module _ (sh : Shape) (ks : List Packet) where
 -- ---- a line once more
 
 -- `three` at the line of packet k answers its numbers, and behind them stand its bytes.
-pub record LineRead (w : ℕ) (t : List ℕ) (at : ℕ) (k : Packet) (rest : List ℕ) (r : ThreeRead) : Type 0 where
+pub record LineRead (w : ℕ) (t : List ℕ) (at : ℕ) (k : Packet) (rest : List ℕ) (r : Option (ℕ × ℕ × ℕ × ℕ)) : Type 0 where
   pub end : ℕ
-  pub answer : r ≡ Three k.a k.b k.c end
+  pub answer : r ≡ Some (k.a, k.b, k.c, end)
   pub low : at ≤ end
   pub hex : HexLine w t end
   pub bytes : k.bytes ≡ pair_bytes t end w
   pub behind : rest ≡ drop (end + 3 * w + 1) t
 
-pub line_read : (w : ℕ) (t : List ℕ) (at : ℕ) (k : Packet) (rest : List ℕ) (r : ThreeRead) → Formed w k → drop at t ≡ packet_line k ++ rest
+pub line_read : (w : ℕ) (t : List ℕ) (at : ℕ) (k : Packet) (rest : List ℕ) (r : Option (ℕ × ℕ × ℕ × ℕ)) → Formed w k → drop at t ≡ packet_line k ++ rest
     → ThreeOutcome (ascii "packet ") t at r → LineRead w t at k rest r
 unfolding packet_line
 line_read w t at k rest _ f e (three_nothing never) =
@@ -58,4 +57,4 @@ line_read w t at k rest _ f e (three_found a b c end g) =
     let e' = e ∙ append_assoc (three_of (ascii "packet ") z) (line_end k.bytes) rest in
     let u = g.only z (line_end k.bytes ++ rest) (f.a_digits, (f.b_digits, f.c_digits)) (end-no-digit k.bytes rest) e' in
     let (hex, bytes, behind) = hex-line-of w t end k.bytes rest g.inside (f.size, f.bytes) (found-behind _ _ _ t at _ z end _ g u e') in
-    record { end = end; answer = λ i. Three (sym u i).0 (sym u i).1.0 (sym u i).1.1 end; low = g.low; hex = hex; bytes = bytes; behind = behind }
+    record { end = end; answer = λ i. Some ((sym u i).0, (sym u i).1.0, (sym u i).1.1, end); low = g.low; hex = hex; bytes = bytes; behind = behind }

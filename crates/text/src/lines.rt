@@ -5,99 +5,52 @@ ghost use Rattle.span.specs.Decision.{Decides};
 ghost use Rattle.text.specs.Inner.Numbers.{NumberOutcome};
 ghost use Rattle.text.specs.Inner.Lines.{char_kind, Pair, Pairs, HexLine, ThreeOutcome, PacketLineOutcome, ShapeLineOutcome};
 
-use crate::numbers::{NumberRead, number};
+use crate::numbers::number;
 use shape::Shape;
 
-// Three numbers, and the place behind the last; or they don't stand there.
-#[derive(Clone, Copy)]
-pub(crate) enum ThreeRead {
-    Three(usize, usize, usize, usize),
-    Nothing,
-}
-
-// The a, b and c of a packet line, and the place behind the line; or no packet line stands there.
-#[derive(Clone, Copy)]
-pub(crate) enum PacketLine {
-    Line(usize, usize, usize, usize),
-    Nothing,
-}
-
-// The shape of line 1, and the place behind the line; or line 1 is none.
-#[derive(Clone, Copy)]
-pub(crate) enum ShapeLine {
-    Line(Shape, usize),
-    Nothing,
-}
-
 // The line `packet a b c` with w bytes that begins at a place.
-pub(crate) fn packet_line(text: &[u8], at: usize, w: usize) -> PacketLine
+pub(crate) fn packet_line(text: &[u8], at: usize, w: usize) -> Option<(usize, usize, usize, usize)>
     requires { (at ≤ length text.now) × (w < 100000) }
     ensures { PacketLineOutcome w text.now at result }
 {
-    let read = three(text, at, b"packet ");
-    let ThreeRead::Three(a, b, c, end) = read else {
-        return PacketLine::Nothing;
-    };
+    let (a, b, c, end) = three(text, at, b"packet ")?;
     if !hex_line(text, end, w) {
-        return PacketLine::Nothing;
+        return None;
     }
-    PacketLine::Line(a, b, c, end + 3 * w + 1)
+    Some((a, b, c, end + 3 * w + 1))
 }
 
 // The line `shape L1 L2 L3 W` at the text's start.
-pub(crate) fn shape_line(text: &[u8]) -> ShapeLine
+pub(crate) fn shape_line(text: &[u8]) -> Option<(Shape, usize)>
     ensures { ShapeLineOutcome text.now result }
 {
-    let lengths = three(text, 0, b"shape ");
-    let ThreeRead::Three(l1, l2, l3, end) = lengths else {
-        return ShapeLine::Nothing;
-    };
-    let width = labelled(text, end, b" ");
-    let NumberRead::Number(w, last) = width else {
-        return ShapeLine::Nothing;
-    };
+    let (l1, l2, l3, end) = three(text, 0, b"shape ")?;
+    let (w, last) = labelled(text, end, b" ")?;
     if !hex_line(text, last, 0) {
-        return ShapeLine::Nothing;
+        return None;
     }
-    ShapeLine::Line(
-        Shape {
-            l1: l1,
-            l2: l2,
-            l3: l3,
-            w: w,
-        },
-        last + 1,
-    )
+    Some((Shape { l1, l2, l3, w }, last + 1))
 }
 
 // A label and three numbers, with single spaces between.
-pub(crate) fn three(text: &[u8], at: usize, label: &[u8]) -> ThreeRead
+pub(crate) fn three(text: &[u8], at: usize, label: &[u8]) -> Option<(usize, usize, usize, usize)>
     requires { at ≤ length text.now }
     ensures { ThreeOutcome label.now text.now at result }
 {
-    let first = labelled(text, at, label);
-    let NumberRead::Number(a, behind_a) = first else {
-        return ThreeRead::Nothing;
-    };
-    let second = labelled(text, behind_a, b" ");
-    let NumberRead::Number(b, behind_b) = second else {
-        return ThreeRead::Nothing;
-    };
-    let third = labelled(text, behind_b, b" ");
-    let NumberRead::Number(c, end) = third else {
-        return ThreeRead::Nothing;
-    };
-    ThreeRead::Three(a, b, c, end)
+    let (a, behind_a) = labelled(text, at, label)?;
+    let (b, behind_b) = labelled(text, behind_a, b" ")?;
+    let (c, end) = labelled(text, behind_b, b" ")?;
+    Some((a, b, c, end))
 }
 
 // A label, then a number.
-fn labelled(text: &[u8], at: usize, label: &[u8]) -> NumberRead
+fn labelled(text: &[u8], at: usize, label: &[u8]) -> Option<(usize, usize)>
     requires { at ≤ length text.now }
     ensures { NumberOutcome (numbered label.now) text.now at result }
 {
     let size = label.len();
     if !span::same(text, label, at, 0, size) {
-        return NumberRead::Nothing;
+        return None;
     }
     number(text, at + size)
 }
@@ -108,16 +61,10 @@ fn hex_line(text: &[u8], at: usize, w: usize) -> bool
     ensures { Decides (HexLine w text.now at) result }
 {
     let digits = 3 * w;
-    if text.len() <= digits {
-        return false;
-    }
-    if text.len() - digits <= at {
-        return false;
-    }
-    if text[at + digits] != 10 {
-        return false;
-    }
-    pairs(text, at, w)
+    digits < text.len()
+        && at < text.len() - digits
+        && text[at + digits] == b'\n'
+        && pairs(text, at, w)
 }
 
 // Whether w bytes stand at a place, a space before each. Every character is of the kind of the third before it: the differences are
@@ -135,10 +82,8 @@ fn pairs(text: &[u8], at: usize, w: usize) -> bool
     let next = at + 3;
     let rest = 3 * w - 3;
     let mut differs: u8 = 0;
-    let mut i = 0;
-    while i < rest {
-        differs = differs | (kind(text[at + i]) ^ kind(text[next + i]));
-        i += 1;
+    for i in 0..rest {
+        differs |= kind(text[at + i]) ^ kind(text[next + i]);
     }
     differs == 0
 }
@@ -151,7 +96,8 @@ fn pair(text: &[u8], at: usize) -> bool
     (kind(text[at]) ^ 1) | kind(text[at + 1]) | kind(text[at + 2]) == 0
 }
 
-// The kind of a character: 0 for a hexadecimal digit in lower case, 1 for a space, 2 for any other.
+// The kind of a character: 0 for a hexadecimal digit in lower case, 1 for a space, 2 for any other. The kinds are numbers and no enum, since
+// `pairs` joins them by xor and or: so many characters are compared at once.
 fn kind(c: u8) -> u8
     ensures { result ≡ char_kind c }
 {

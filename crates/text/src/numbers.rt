@@ -2,51 +2,36 @@
 ghost use Rattle.printing.specs.Text.{decimal};
 ghost use Rattle.text.specs.Inner.Numbers.{DigitOutcome, NumberOutcome};
 
-// A number, and the place behind its last digit; or no number stands there.
-#[derive(Clone, Copy)]
-pub(crate) enum NumberRead {
-    Number(usize, usize),
-    Nothing,
-}
-
 // The number whose digits stand at a place: as many as there are, at most five, and a 0 by itself. What stands behind it is for the
 // caller to ask.
-pub(crate) fn number(text: &[u8], at: usize) -> NumberRead
+pub(crate) fn number(text: &[u8], at: usize) -> Option<(usize, usize)>
     ensures { NumberOutcome decimal text.now at result }
 {
-    let first = digit(text, at);
-    if first > 9 {
-        return NumberRead::Nothing;
-    }
+    let first = digit(text, at)?;
     let mut end = at + 1;
     if first == 0 {
-        return NumberRead::Number(0, end);
+        return Some((0, end));
     }
     let mut v = first;
+    // The number read so far says how long this goes on, and no index.
     while v < 10000 {
-        let d = digit(text, end);
-        if d > 9 {
-            return NumberRead::Number(v, end);
-        }
+        let Some(d) = digit(text, end) else {
+            return Some((v, end));
+        };
         v = v * 10 + d;
         end += 1;
     }
-    NumberRead::Number(v, end)
+    Some((v, end))
 }
 
-// The digit at a place, or 10 where none stands there.
-fn digit(text: &[u8], at: usize) -> usize
+// The digit at a place.
+fn digit(text: &[u8], at: usize) -> Option<usize>
     ensures { DigitOutcome text.now at result }
 {
-    if text.len() <= at {
-        return 10;
+    let c = *text.get(at)?;
+    if c.is_ascii_digit() {
+        Some(usize::from(c - b'0'))
+    } else {
+        None
     }
-    let c = text[at];
-    if c < 48 {
-        return 10;
-    }
-    if c > 57 {
-        return 10;
-    }
-    (c - 48) as usize
 }

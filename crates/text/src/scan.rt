@@ -5,7 +5,8 @@ ghost use Rattle.text.specs.Inner.Numbers.{Found};
 ghost use Rattle.text.specs.Inner.Lines.{Any};
 ghost use Rattle.text.specs.Inner.Scan.{ScanOutcome, InsideNext};
 
-use crate::lines::{PacketLine, ShapeLine, packet_line, shape_line};
+use crate::lines::{packet_line, shape_line};
+use answer::Refusal;
 use shape::Shape;
 
 // The most packets that a text may have.
@@ -21,49 +22,41 @@ pub(crate) struct Contents {
     pub(crate) lines: usize,
 }
 
-// A text in the form, or the number of the first line that breaks it.
-#[derive(Clone, Copy)]
-pub(crate) enum Scanned {
-    Whole(Contents),
-    Broken(u64),
-}
-
 // Whether every line of the text is in the form.
-pub(crate) fn scan(text: &[u8]) -> Scanned
+pub(crate) fn scan(text: &[u8]) -> Result<Contents, Refusal>
     ensures { ScanOutcome text.now result }
 {
-    let first = shape_line(text);
-    let ShapeLine::Line(sh, lines) = first else {
-        return Scanned::Broken(1);
+    let Some((sh, lines)) = shape_line(text) else {
+        return Err(Refusal::Line(1));
     };
     scan_packets(text, sh, lines)
 }
 
 // The packet lines, from the second line on: up to the text's end, to the most packets that a pack can have, or to a line that is none.
-fn scan_packets(text: &[u8], sh: Shape, lines: usize) -> Scanned
+fn scan_packets(text: &[u8], sh: Shape, lines: usize) -> Result<Contents, Refusal>
     requires { Found first_line Numbers Any text.now 0 sh lines }
     ensures { ScanOutcome text.now result }
 {
     let mut at = lines;
     let mut n: usize = 0;
     let mut inside: usize = 0;
+    // No index is counted: a line's end is where the next begins.
     while at < text.len() {
         if n == MOST {
-            return Scanned::Broken(line_of(n));
+            return Err(Refusal::Line(line_of(n)));
         }
-        let line = packet_line(text, at, sh.w);
-        let PacketLine::Line(a, b, c, end) = line else {
-            return Scanned::Broken(line_of(n));
+        let Some((a, b, c, end)) = packet_line(text, at, sh.w) else {
+            return Err(Refusal::Line(line_of(n)));
         };
         inside = inside_next(sh, n, inside, a, b, c);
         n += 1;
         at = end;
     }
-    Scanned::Whole(Contents {
+    Ok(Contents {
         shape: sh,
         packets: n,
-        inside: inside,
-        lines: lines,
+        inside,
+        lines,
     })
 }
 
@@ -72,19 +65,11 @@ fn inside_next(sh: Shape, n: usize, inside: usize, a: usize, b: usize, c: usize)
     requires { (inside ≤ n) × (n ≤ 4294967295) }
     ensures { InsideNext sh n inside a b c result }
 {
-    if inside < n {
-        return inside;
+    if inside == n && a < sh.l1 && b < sh.l2 && c < sh.l3 {
+        inside + 1
+    } else {
+        inside
     }
-    if sh.l1 <= a {
-        return inside;
-    }
-    if sh.l2 <= b {
-        return inside;
-    }
-    if sh.l3 <= c {
-        return inside;
-    }
-    inside + 1
 }
 
 // The line of packet n.

@@ -1,70 +1,37 @@
 -- The lines of a text one behind the other, as a writer puts them: so many packets' lines, and how long each text is.
+use Rattle.std.specs.Prelude.{Option, Some, None}
 use mathlib.Core.Path.{◌≡◌, refl, sym, ap, subst, ◌∙◌}
 use mathlib.Core.List.{List, [], ◌∷◌, ◌++◌, map, append-nil}
-use Prim.Native.Nat.{ℕ, zero, suc, ◌+◌, ◌*◌, ◌-◌, ◌/◌, ◌%◌, ◌≤◌, ◌<◌, min}
-use native.Mathlib.Nat.{min-eq_left}
+use Prim.Native.Nat.{ℕ, zero, suc, ◌+◌, ◌*◌, ◌-◌, ◌≤◌, ◌<◌, min}
+use native.Mathlib.Nat.{min-eq_left, suc-mul, mul-le-mul_right}
 use native.Mathlib.Decide.{dec_lt}
 use native.Mathlib.Numerals.{add-one}
 use native.Mathlib.Omega.{arith}
 use lib.Dec.{eqb}
-use lib.ListN.{length, get_or, set, take, drop, length-append, length-drop}
-use lib.Seq.{take-suc, get_or-drop, paste, paste-zero}
-use borrow.Author.Tests.{lt-ltb, le-ltb}
+use lib.ListN.{length, get_or, set, take, drop, length-append}
+use lib.Seq.{take-suc, paste, paste-zero}
 use borrow.Table.Elements.{map_app}
+use Rattle.answer.proofs.Tuples.{some-four}
 use Rattle.answer.specs.declared.Refusal.{Refusal}
-use Rattle.answer.specs.declared.Answer.TheVariants.{Refused}
-use Rattle.answer.specs.Values.{Checked, passes, fails, check, and_then, checked, refusal, answer_value}
+use Rattle.answer.specs.Values.{Checked, passes, fails, check, and_then, checked, refusal}
 use Rattle.answer.proofs.Values.{checked-fails}
 use Rattle.shape.specs.declared.Shape.{Shape}
 use Rattle.pack.specs.declared.Header.{Header}
 use Rattle.pack.specs.declared.Section.{Section}
-use Rattle.pack.specs.declared.PartsRead.{PartsRead}
-use Rattle.pack.specs.declared.PartsRead.TheVariants.{Parts, Absent}
 use Rattle.pack.specs.Packs.{Packet, up_from}
-use Rattle.pack.specs.Packets.{packet_at, packet_in, packets_in, PartsOutcome, FirstOutside}
+use Rattle.pack.specs.Packets.{packet_at, packet_in, packets_in, Stands, PartsOutcome, FirstOutside}
 use Rattle.pack.specs.Reading.{packet_size, air_of, plain_air_of}
 use Rattle.pack.proofs.Sound.{air-sound}
 use Rattle.pack.proofs.Sent.{up_from-more}
 use Rattle.pack.proofs.Naming.{parts-told}
-use Rattle.pack.proofs.AirPacks.{packet_in-size, air-stands}
-use Rattle.printing.specs.Text.{ascii, decimal_in, decimal, hex_byte, numbered, triple, number_line, shape_line}
+use Rattle.pack.proofs.AirPacks.{packet_in-size}
+use Rattle.printing.specs.Text.{ascii, decimal, hex_byte, numbered, triple, number_line, shape_line}
 use Rattle.printing.specs.Append.{Appended}
 use Rattle.printing.proofs.Appending.{append-append, append-nothing, append-paste, append-end, append-all, paste_more}
 use Rattle.printing.proofs.Numerals.{length-decimal, length-shape_line}
 use Rattle.text.specs.Form.{hex_bytes, packet_line, packet_lines, first_line, text_of}
 use Rattle.text.specs.Text.{text_in, write_text_checked, WriteTextOutcome, write_refused}
 use Rattle.text.proofs.FirstTurn.{packet_lines-append}
-
--- ---- numbers
-
-module _ (most n : ℕ) where
-  decimal_in-short : n < 10 → length (decimal_in (suc most) n) ≡ 1
-  unfolding decimal_in
-  decimal_in-short l = rw (lt-ltb n 10 l)
-
-  decimal_in-long : 10 ≤ n → length (decimal_in (suc most) n) ≡ length (decimal_in most (n / 10)) + 1
-  unfolding decimal_in
-  decimal_in-long l = rw (le-ltb n 10 l) (length-append (decimal_in most (n / 10)) ((48 + n % 10) ∷ []))
-
--- a number of one to four digits
-pub one-digit : (n : ℕ) → n < 10 → length (decimal n) ≡ 1
-unfolding decimal
-one-digit n l = decimal_in-short 19 n l
-
-pub two_digits : (n : ℕ) → 10 ≤ n → n < 100 → length (decimal n) ≡ 2
-unfolding decimal
-two_digits n low high = decimal_in-long 19 n low ∙ ap (λ (k : ℕ). k + 1) (decimal_in-short 18 (n / 10) (omega arith))
-
-pub three-digits : (n : ℕ) → 100 ≤ n → n < 1000 → length (decimal n) ≡ 3
-unfolding decimal
-three-digits n low high =
-    omega (arith, decimal_in-long 19 n (omega arith), decimal_in-long 18 (n / 10) (omega arith), decimal_in-short 17 (n / 10 / 10) (omega arith))
-
-pub four-digits : (n : ℕ) → 1000 ≤ n → n < 10000 → length (decimal n) ≡ 4
-unfolding decimal
-four-digits n low high =
-    omega
-    (arith, decimal_in-long 19 n (omega arith), decimal_in-long 18 (n / 10) (omega arith), decimal_in-long 17 (n / 10 / 10) (omega arith), decimal_in-short 16 (n / 10 / 10 / 10) (omega arith))
 
 -- ---- the lengths of lines
 
@@ -110,20 +77,35 @@ line-le p h s read i l =
     omega
     (arith, packet_line-length k, length-decimal k.a, length-decimal k.b, length-decimal k.c, packet_in-size p h s read i l, (air-sound p h s read).header.valid.w_high)
 
-module _ (p : List ℕ) (h : Header) (s : Section) (read : air_of p ≡ passes (h, s)) (small : (k : ℕ) → get_or p k 0 < 256) (i : ℕ) (l : i < s.count)
-    (r : PartsRead) (outcome : PartsOutcome p h s i r) where
-  told : r ≡ Parts (packet_in p h s i).a (packet_in p h s i).b (packet_in p h s i).c (packet_at h s i + 3)
-  told = parts-told p h s i r outcome (air-stands p h s read small i l)
+-- every packet of a pack that was read stands in it
+stands : (p : List ℕ) (h : Header) (s : Section) → air_of p ≡ passes (h, s) → (i : ℕ) → i < s.count → Stands p h s i
+unfolding packet_at
+stands p h s read i l =
+    let sound = air-sound p h s read in
+    let v = sound.header.valid in
+    record {
+      l1_high = v.l1_high;
+      l2_high = v.l2_high;
+      w_high = v.w_high;
+      inside = omega (arith, sound.ends, suc-mul i (packet_size h), mul-le-mul_right (packet_size h) l);
+    }
 
-  pub no-parts : r ≡ Absent → ⊥
+module _ (p : List ℕ) (h : Header) (s : Section) (read : air_of p ≡ passes (h, s)) (i : ℕ) (l : i < s.count)
+    (r : Option (ℕ × ℕ × ℕ × ℕ)) (outcome : PartsOutcome p h s i r) where
+  told : r ≡ Some ((packet_in p h s i).a, (packet_in p h s i).b, (packet_in p h s i).c, (packet_at h s i + 3))
+  told = parts-told p h s i r outcome (stands p h s read i l)
+
+  pub no-parts : r ≡ None → ⊥
   no-parts e = let t = told in let z : ◌≡◌ {A = ℕ} 0 1 = cc in omega arith
 
   -- its parts, and where its bytes begin
-  pub parts-read : (a b c from : ℕ) → r ≡ Parts a b c from
+  pub parts-read : (a b c from : ℕ) → r ≡ Some (a, b, c, from)
       → (a ≡ (packet_in p h s i).a) × (b ≡ (packet_in p h s i).b) × (c ≡ (packet_in p h s i).c) × (from ≡ packet_at h s i + 3)
-  parts-read a b c from e = let t = told in (cc, cc, cc, cc)
+  parts-read a b c from e =
+      let k = packet_in p h s i in
+      some-four a k.a b k.b c k.c from (packet_at h s i + 3) (sym e ∙ told)
 
-  pub line-length : (a b c from x y z : ℕ) → r ≡ Parts a b c from → x ≡ length (decimal a) → y ≡ length (decimal b) → z ≡ length (decimal c)
+  pub line-length : (a b c from x y z : ℕ) → r ≡ Some (a, b, c, from) → x ≡ length (decimal a) → y ≡ length (decimal b) → z ≡ length (decimal c)
       → 10 + (x + y + z) + 3 * h.shape.w ≡ length (packet_line (packet_in p h s i))
   line-length a b c from x y z e dx dy dz =
       let (ea, eb, ec, _) = parts-read a b c from e in
@@ -214,29 +196,27 @@ hex_bytes-append [] ys = refl
 hex_bytes-append (x ∷ xs) ys = rw (hex_bytes-append xs ys)
 
 -- one byte more of a run
-pub bytes-more : (b src m ds : List ℕ) (at from i k : ℕ) → from + i < length src → k + 3 ≤ length b → ds ≡ hex_byte (get_or src (from + i) 0)
-    → Appended b at (hex_bytes (take i (drop from src))) m k
-    → Appended b at (hex_bytes (take (i + 1) (drop from src))) (set (set (set m k 32) (k + 1) (get_or ds 0 0)) (k + 2) (get_or ds 1 0)) (k + 3)
+pub bytes-more : (b src m ds : List ℕ) (at i k : ℕ) → i < length src → k + 3 ≤ length b → ds ≡ hex_byte (get_or src i 0)
+    → Appended b at (hex_bytes (take i src)) m k
+    → Appended b at (hex_bytes (take (i + 1) src)) (set (set (set m k 32) (k + 1) (get_or ds 0 0)) (k + 2) (get_or ds 1 0)) (k + 3)
 unfolding hex_bytes hex_byte
-bytes-more b src m ds at from i k inside room digits h =
+bytes-more b src m ds at i k inside room digits h =
+    let byte = get_or src i 0 in
     let x = get_or ds 0 0 in
     let y = get_or ds 1 0 in
-    let pair : hex_byte (get_or src (from + i) 0) ≡ x ∷ y ∷ [] = rw digits in
-    let q = drop from src in
-    let byte : get_or q i 0 ≡ get_or src (from + i) 0 = get_or-drop from src i 0 in
-    let more : take (i + 1) q ≡ take i q ++ (get_or src (from + i) 0 ∷ []) =
-    rw (add-one i, take-suc q i 0 (omega (arith, length-drop from src)), byte) in
-    let last : hex_bytes (get_or src (from + i) 0 ∷ []) ≡ 32 ∷ x ∷ y ∷ [] = rw (append-nil (hex_byte (get_or src (from + i) 0))) (ap (λ (l : List ℕ). 32 ∷ l) pair) in
-    rw (more, hex_bytes-append (take i q) (get_or src (from + i) 0 ∷ []), last)
-    (append-append b at (hex_bytes (take i q)) m k (32 ∷ x ∷ y ∷ []) _ (k + 3) h (append-three m k 32 x y (omega (arith, h.size))))
+    let pair : hex_byte byte ≡ x ∷ y ∷ [] = rw digits in
+    let more : take (i + 1) src ≡ take i src ++ (byte ∷ []) = rw (add-one i, take-suc src i 0 inside) in
+    let last : hex_bytes (byte ∷ []) ≡ 32 ∷ x ∷ y ∷ [] = rw (append-nil (hex_byte byte)) (ap (λ (l : List ℕ). 32 ∷ l) pair) in
+    rw (more, hex_bytes-append (take i src) (byte ∷ []), last)
+    (append-append b at (hex_bytes (take i src)) m k (32 ∷ x ∷ y ∷ []) _ (k + 3) h (append-three m k 32 x y (omega (arith, h.size))))
 
-pub bytes-none : (b src : List ℕ) (at from : ℕ) → at ≤ length b → Appended b at (hex_bytes (take 0 (drop from src))) b at
+pub bytes-none : (b : List ℕ) (at : ℕ) → at ≤ length b → Appended b at (hex_bytes []) b at
 unfolding hex_bytes
-bytes-none b src at from l = append-nothing b at l
+bytes-none b at l = append-nothing b at l
 
 -- the line of a packet: its numbers, its bytes, its end
-module _ (p : List ℕ) (h : Header) (s : Section) (read : air_of p ≡ passes (h, s)) (small : (k : ℕ) → get_or p k 0 < 256) (i : ℕ) (l : i < s.count)
-    (r : PartsRead) (outcome : PartsOutcome p h s i r) (a b c from : ℕ) (e : r ≡ Parts a b c from) (t u : List ℕ) (at x : ℕ) where
+module _ (p : List ℕ) (h : Header) (s : Section) (read : air_of p ≡ passes (h, s)) (i : ℕ) (l : i < s.count)
+    (r : Option (ℕ × ℕ × ℕ × ℕ)) (outcome : PartsOutcome p h s i r) (a b c from : ℕ) (e : r ≡ Some (a, b, c, from)) (t u : List ℕ) (at x : ℕ) where
   -- there is room for its bytes behind numbers with as many digits
   pub line-room : (d f g : ℕ) → Appended t at (triple (ascii "packet ") d f g) u x
       → length (decimal d) + length (decimal f) + length (decimal g) ≡ length (decimal a) + length (decimal b) + length (decimal c)
@@ -244,10 +224,10 @@ module _ (p : List ℕ) (h : Header) (s : Section) (read : air_of p ≡ passes (
   unfolding packet_size
   line-room d f g numbers same room =
       let k = packet_in p h s i in
-      let (_, _, _, begins) = parts-read p h s read small i l r outcome a b c from e in
-      let inside = (air-stands p h s read small i l).inside in
+      let (_, _, _, begins) = parts-read p h s read i l r outcome a b c from e in
+      let inside = (stands p h s read i l).inside in
       let n = triple-length (ascii "packet ") d f g in
-      let whole = line-length p h s read small i l r outcome a b c from _ _ _ e refl refl refl in
+      let whole = line-length p h s read i l r outcome a b c from _ _ _ e refl refl refl in
       let ends = append-end t at (triple (ascii "packet ") d f g) u x (omega arith) numbers in
       (omega arith, omega (arith, numbers.size))
 
@@ -255,7 +235,7 @@ module _ (p : List ℕ) (h : Header) (s : Section) (read : air_of p ≡ passes (
       → Appended u x (hex_bytes (take h.shape.w (drop from p))) v y → Appended v y (ascii "\n") w z → Appended t at (packet_line (packet_in p h s i)) w z
   unfolding packet_line packet_in
   line-appended v w y z numbers bytes newline =
-      let (ea, eb, ec, begins) = parts-read p h s read small i l r outcome a b c from e in
+      let (ea, eb, ec, begins) = parts-read p h s read i l r outcome a b c from e in
       let told : triple (ascii "packet ") a b c ≡ triple (ascii "packet ") (packet_in p h s i).a (packet_in p h s i).b (packet_in p h s i).c
       = ap (λ (n : ℕ). triple (ascii "packet ") n b c) ea ∙ ap (λ (n : ℕ). triple (ascii "packet ") (packet_in p h s i).a n c) eb
       ∙ ap (triple (ascii "packet ") (packet_in p h s i).a (packet_in p h s i).b) ec in
@@ -305,8 +285,8 @@ pub outside-none : (p : List ℕ) (h : Header) (s : Section) (r : ℕ) → First
 outside-none p h s r f l = let e : r ≡ s.count = omega (arith, f.bound) in subst (FirstOutside p h s) e f
 
 pub text-unread : (p before : List ℕ) (f : Refusal) → refusal {A = Header × Section} f ≡ checked (plain_air_of p)
-    → WriteTextOutcome p before before (answer_value (Refused f))
-unfolding write_text_checked and_then answer_value
+    → WriteTextOutcome p before before (refusal f)
+unfolding write_text_checked and_then
 text-unread p before f e =
     let (n, failed, value) = checked-fails {B = Unit} (plain_air_of p) f e in
     let first : write_text_checked p (length before) ≡ fails n

@@ -1,137 +1,151 @@
 // From an air pack of count 5 to its text: the text's length, and its lines one behind the other in a slice of exactly that length.
 #![tactic(auto)]
 
-ghost use Rattle.std.specs.Prelude.{◌≡◌, ◌+◌, ◌*◌, ◌≤◌, ◌<◌, length, take, drop};
-ghost use Rattle.answer.specs.Values.{answer_value, checked, passes};
+ghost use Rattle.std.specs.Prelude.{◌≡◌, ◌+◌, ◌*◌, ◌≤◌, ◌<◌, length};
+ghost use Rattle.answer.specs.Values.{value_of, checked, passes};
 ghost use Rattle.shape.specs.Shapes.{Valid};
-ghost use Rattle.pack.specs.Reading.{air_of, plain_air_of};
+ghost use Rattle.pack.specs.Reading.{plain_air_of};
 ghost use Rattle.pack.specs.Packets.{packet_in, packets_in};
-ghost use Rattle.pack_writer.specs.Writing.{size_value};
 ghost use Rattle.printing.specs.Text.{decimal};
 ghost use Rattle.printing.specs.Append.{Appended};
 ghost use Rattle.text.specs.Form.{hex_bytes, packet_line, packet_lines, first_line};
 ghost use Rattle.text.specs.Text.{text_in, text_size_checked, WriteTextOutcome};
 
-use answer::{Answer, Fault, PacketFault, Refusal};
-use pack::{AirRead, Header, PartsRead, Section};
-use pack_writer::PackSize;
+use answer::{Fault, PacketFault, Refusal};
+use pack::{Header, Section};
 use shape::Shape;
 
+// An air pack of count 5 that was read: its bytes, what stands before its packets, and its packets.
+#[derive(Clone, Copy)]
+struct Air<'a> {
+    bytes: &'a [u8],
+    h: Header,
+    s: Section,
+    ghost plain: { plain_air_of bytes.now ≡ passes (h, s) },
+    ghost few: { s.count < 4294967296 },
+}
+
 // The bytes of a pack's text.
-pub fn text_bytes(air: &[u8]) -> PackSize
-    ensures { size_value result ≡ checked (text_size_checked air.now) }
+pub fn text_bytes(air: &[u8]) -> Result<usize, Refusal>
+    ensures { value_of result ≡ checked (text_size_checked air.now) }
 {
-    match pack::read_plain_air(air) {
-        AirRead::Refused(f) => PackSize::Refused(f),
-        AirRead::Air(h, s) => PackSize::Bytes(text_length(air, h, s)),
-    }
+    let (h, s) = pack::read_plain_air(air)?;
+    Ok(Air { bytes: air, h, s }.text_length())
 }
 
 // Writes the text of a pack over the whole of `text`.
-pub fn write_text(air: &[u8], text: &mut [u8]) -> Answer
-    ensures { WriteTextOutcome air.now text.old text.new (answer_value result) }
+pub fn write_text(air: &[u8], text: &mut [u8]) -> Result<(), Refusal>
+    ensures { WriteTextOutcome air.now text.old text.new (value_of result) }
 {
-    match pack::read_plain_air(air) {
-        AirRead::Refused(f) => Answer::Refused(f),
-        AirRead::Air(h, s) => write_read(air, text, h, s),
+    let (h, s) = pack::read_plain_air(air)?;
+    Air { bytes: air, h, s }.write(text)
+}
+
+impl Air<'_> {
+    // The checks 4 and 11, then the text.
+    fn write(&self, text: &mut [u8]) -> Result<(), Refusal>
+        ensures { WriteTextOutcome self.now.bytes.now text.old text.new (value_of result) }
+    {
+        if text.len() != self.text_length() {
+            return Err(Refusal::Plain(Fault::SliceLength));
+        }
+        let i = pack::first_outside(self.bytes, self.h, self.s);
+        if i < self.s.count {
+            return Err(Refusal::Packet(PacketFault::CellIndex, i as u64));
+        }
+        self.put(text);
+        Ok(())
+    }
+
+    // The line of the shape, then the packets.
+    fn put(&self, text: &mut [u8])
+        requires { length text.old ≡ length (text_in self.now.bytes.now (self.now.h, self.now.s)) }
+        ensures { text.new ≡ text_in self.now.bytes.now (self.now.h, self.now.s) }
+    {
+        let sh = self.h.shape;
+        let behind = printing::append_shape(
+            text,
+            0,
+            sh.l1 as u64,
+            sh.l2 as u64,
+            sh.l3 as u64,
+            sh.w as u64,
+        );
+        self.append_lines(text, behind);
+    }
+
+    // A line for each packet.
+    fn append_lines(&self, text: &mut [u8], from: usize) -> usize
+        requires { from + length (packet_lines (packets_in self.now.bytes.now self.now.h self.now.s)) ≤ length text.old }
+        ensures { Appended text.old from (packet_lines (packets_in self.now.bytes.now self.now.h self.now.s)) text.new result }
+    {
+        let mut at = from;
+        for i in 0..self.s.count {
+            at = self.append_packet(text, at, i);
+        }
+        at
+    }
+
+    // The line of packet i. Every packet of a pack that was read stands in it, so that nothing is left out.
+    fn append_packet(&self, text: &mut [u8], at: usize, i: usize) -> usize
+        requires { (i < self.now.s.count) × (at + length (packet_line (packet_in self.now.bytes.now self.now.h self.now.s i)) ≤ length text.old) }
+        ensures { Appended text.old at (packet_line (packet_in self.now.bytes.now self.now.h self.now.s i)) text.new result }
+    {
+        let Some((a, b, c, from)) = pack::packet_parts(self.bytes, self.h, self.s, i) else {
+            return at;
+        };
+        let cell = printing::append_triple(
+            text,
+            at,
+            b"packet ",
+            u64::from(a),
+            u64::from(b),
+            u64::from(c),
+        );
+        let end = append_bytes(text, cell, &self.bytes[from..from + self.h.shape.w]);
+        printing::append(text, end, b"\n")
+    }
+
+    // The length of the text.
+    fn text_length(&self) -> usize
+        ensures { result ≡ length (text_in self.now.bytes.now (self.now.h, self.now.s)) }
+    {
+        let mut len = first_length(self.h.shape);
+        for i in 0..self.s.count {
+            len += self.line_length(i);
+        }
+        len
+    }
+
+    // The length of the line of packet i: its label, numbers, spaces and newline, and three characters a byte. No packet is without parts.
+    fn line_length(&self, i: usize) -> usize
+        requires { i < self.now.s.count }
+        ensures { (result ≡ length (packet_line (packet_in self.now.bytes.now self.now.h self.now.s i))) × (result ≤ 3142) }
+    {
+        let Some((a, b, c, _)) = pack::packet_parts(self.bytes, self.h, self.s, i) else {
+            return 0;
+        };
+        let digits = decimal_length(usize::from(a))
+            + decimal_length(usize::from(b))
+            + decimal_length(usize::from(c));
+        10 + digits + 3 * self.h.shape.w
     }
 }
 
-// The checks 4 and 11 of a pack that was read, then its text.
-fn write_read(air: &[u8], text: &mut [u8], h: Header, s: Section) -> Answer
-    requires { plain_air_of air.now ≡ passes (h, s) }
-    ensures { WriteTextOutcome air.now text.old text.new (answer_value result) }
-{
-    if text.len() != text_length(air, h, s) {
-        return Answer::Refused(Refusal::Plain(Fault::SliceLength));
-    }
-    let i = pack::first_outside(air, h, s);
-    if i < s.count {
-        return Answer::Refused(Refusal::Packet(PacketFault::CellIndex, i as u64));
-    }
-    put_text(air, text, h, s);
-    Answer::Done
-}
-
-// The line of the shape, then the packets.
-fn put_text(air: &[u8], text: &mut [u8], h: Header, s: Section)
-    requires { (air_of air.now ≡ passes (h, s)) × (length text.old ≡ length (text_in air.now (h, s))) }
-    ensures { text.new ≡ text_in air.now (h, s) }
-{
-    let sh = h.shape;
-    let behind = printing::append_shape(
-        text,
-        0,
-        sh.l1 as u64,
-        sh.l2 as u64,
-        sh.l3 as u64,
-        sh.w as u64,
-    );
-    append_lines(air, text, h, s, behind);
-}
-
-// A line for each packet of a pack that was read.
-fn append_lines(air: &[u8], text: &mut [u8], h: Header, s: Section, from: usize) -> usize
-    requires { (air_of air.now ≡ passes (h, s)) × (from + length (packet_lines (packets_in air.now h s)) ≤ length text.old) }
-    ensures { Appended text.old from (packet_lines (packets_in air.now h s)) text.new result }
-{
-    let count = s.count;
-    let mut at = from;
-    let mut i = 0;
-    while i < count {
-        at = append_packet(air, text, h, s, at, i);
-        i += 1;
-    }
-    at
-}
-
-// The line of packet i.
-fn append_packet(air: &[u8], text: &mut [u8], h: Header, s: Section, at: usize, i: usize) -> usize
-    requires { (air_of air.now ≡ passes (h, s)) × (i < s.count) × (at + length (packet_line (packet_in air.now h s i)) ≤ length text.old) }
-    ensures { Appended text.old at (packet_line (packet_in air.now h s i)) text.new result }
-{
-    let parts = pack::packet_parts(air, h, s, i);
-    let PartsRead::Parts(a, b, c, from) = parts else {
-        return at;
-    };
-    let sh = h.shape;
-    let cell = printing::append_triple(text, at, b"packet ", a as u64, b as u64, c as u64);
-    let end = append_bytes(air, text, from, cell, sh.w);
-    printing::append(text, end, b"\n")
-}
-
-// A space and two digits for each of n bytes, three stores a byte.
-fn append_bytes(air: &[u8], text: &mut [u8], from: usize, at: usize, n: usize) -> usize
-    requires { (from + n ≤ length air.now) × (at + 3 * n ≤ length text.old) }
-    ensures { Appended text.old at (hex_bytes (take n (drop from air.now))) text.new result }
+// A space and two digits for each byte, three stores a byte.
+fn append_bytes(text: &mut [u8], at: usize, bytes: &[u8]) -> usize
+    requires { at + 3 * length bytes.now ≤ length text.old }
+    ensures { Appended text.old at (hex_bytes bytes.now) text.new result }
 {
     let mut k = at;
-    let mut i = 0;
-    while i < n {
-        let b = air[from + i];
-        let digits = printing::hex_digits(b);
+    for b in bytes {
+        let digits = printing::hex_digits(*b);
         text[k] = b' ';
         text[k + 1] = digits[0];
         text[k + 2] = digits[1];
         k += 3;
-        i += 1;
     }
     k
-}
-
-// The length of the text of a pack that was read.
-fn text_length(air: &[u8], h: Header, s: Section) -> usize
-    requires { air_of air.now ≡ passes (h, s) }
-    ensures { result ≡ length (text_in air.now (h, s)) }
-{
-    let count = s.count;
-    let mut len = first_length(h.shape);
-    let mut i = 0;
-    while i < count {
-        len += line_length(air, h, s, i);
-        i += 1;
-    }
-    len
 }
 
 fn first_length(sh: Shape) -> usize
@@ -144,32 +158,13 @@ fn first_length(sh: Shape) -> usize
         + decimal_length(sh.w)
 }
 
-// The length of the line of packet i: its label, numbers, spaces and newline, and three characters a byte.
-fn line_length(air: &[u8], h: Header, s: Section, i: usize) -> usize
-    requires { (air_of air.now ≡ passes (h, s)) × (i < s.count) }
-    ensures { (result ≡ length (packet_line (packet_in air.now h s i))) × (result ≤ 3142) }
-{
-    let parts = pack::packet_parts(air, h, s, i);
-    let PartsRead::Parts(a, b, c, _) = parts else {
-        return 0;
-    };
-    let sh = h.shape;
-    let digits = decimal_length(a as usize)
-        + decimal_length(b as usize)
-        + decimal_length(c as usize);
-    10 + digits + 3 * sh.w
-}
-
 // How many digits a number of at most four has.
 fn decimal_length(n: usize) -> usize
     requires { n < 10000 }
     ensures { (result ≡ length (decimal n)) × (result ≤ 4) }
 {
-    if n < 10 {
-        return 1;
+    match n.checked_ilog10() {
+        Some(k) => k as usize + 1,
+        None => 1,
     }
-    if n < 100 {
-        return 2;
-    }
-    if n < 1000 { 3 } else { 4 }
 }

@@ -9,8 +9,7 @@ ghost use Rattle.pack.specs.Reading.{job_of};
 ghost use Rattle.write.specs.Prints.{Prints};
 ghost use Rattle.write.specs.Writes.{Writes};
 
-use pack::{Header, JobRead};
-use pack_writer::PackSize;
+use pack::{Header, Section};
 use printing::LIMIT;
 use std::alloc::Global;
 use std::io;
@@ -43,8 +42,8 @@ fn print(job: &[u8], cube: &mut [u8], output: &mut [u8]) -> usize
         return printing::append(output, 0, b"too big\n");
     }
     match pack::read_job(job) {
-        JobRead::Refused(f) => printing::append_refused(output, 0, answer::number(f)),
-        JobRead::Job(h, _) => print_pack(job, cube, output, h),
+        Err(f) => printing::append_refused(output, 0, answer::number(f)),
+        Ok((h, _)) => print_pack(job, cube, output, h),
     }
 }
 
@@ -56,19 +55,15 @@ fn print_pack(job: &[u8], cube: &mut [u8], output: &mut [u8], h: Header) -> usiz
     ensures prefix_len { IsPrefixLen result output.new }
     ensures prints { Prints job.now (take result output.new) }
 {
-    let z = h.sizes;
-    let bytes = z.bytes;
-    if bytes > LIMIT {
+    let bytes = h.sizes.bytes;
+    // A header that was read has a size.
+    let Ok(size) = pack_writer::written_bytes(h) else {
+        return 0;
+    };
+    if bytes > LIMIT || size > LIMIT {
         return printing::append(output, 0, b"too big\n");
     }
-    match pack_writer::written_bytes(h) {
-        PackSize::Refused(_) => 0,
-        PackSize::Bytes(size) => {
-            if size > LIMIT {
-                return printing::append(output, 0, b"too big\n");
-            }
-            writer::write_pack(job, &mut cube[..bytes], &mut output[..size]);
-            size
-        }
-    }
+    // With exact lengths nothing is refused.
+    let _ = writer::write_pack(job, &mut cube[..bytes], &mut output[..size]);
+    size
 }

@@ -1,4 +1,5 @@
 -- From the parts to the whole: the data string in the cube, its code cube, and the writer's answer.
+use Rattle.std.specs.Prelude.{Ok, Err}
 use mathlib.Core.Path.{◌≡◌, refl, ◌∙◌}
 use mathlib.Core.Bool.{true, false}
 use mathlib.Core.List.{List}
@@ -10,9 +11,8 @@ use borrow.Author.Tests.{eqb-true}
 use Rattle.answer.specs.declared.Fault.TheVariants.{SliceLength}
 use Rattle.answer.specs.declared.Refusal.{Refusal}
 use Rattle.answer.specs.declared.Refusal.TheVariants.{Plain}
-use Rattle.answer.specs.declared.Answer.TheVariants.{Done, Refused}
 use Rattle.answer.specs.Refusals.{fault_number}
-use Rattle.answer.specs.Values.{Value, passes, check, and_then, checked, refusal, answer_value}
+use Rattle.answer.specs.Values.{Value, passes, check, and_then, checked, refusal, value_of}
 use Rattle.answer.proofs.Values.{checked-fails, then-refused}
 use Rattle.field.specs.Field.{Primitive}
 use Rattle.span.specs.Span.{SetTo}
@@ -84,19 +84,19 @@ module _ (job : List ℕ) (h : Header) (file : Section) (sound : JobSound job h 
       (rw sound.header.measured at (eqb-true bytes h.sizes.bytes p), eqb-true output (pack_size h) q)
 
 module _ (r : ℕ) (p xs out : List ℕ) where
-  pub unread-job : (f : Refusal) → refusal {A = Header × Section} f ≡ checked (job_of p) → WriteOutcome r p xs out xs out (answer_value (Refused f))
-  unfolding answer_value write_checked
+  pub unread-job : (f : Refusal) → refusal {A = Header × Section} f ≡ checked (job_of p) → WriteOutcome r p xs out xs out (value_of (Err f))
+  unfolding value_of write_checked
   unread-job f e =
       let (n, failed, value) = checked-fails {B = Unit} (write_checked p (length xs) (length out)) f (then-refused (job_of p) _ f e) in
       rw value (write_refused n failed refl refl)
 
   module _ (h : Header) (file : Section) (e : job_of p ≡ passes (h, file)) where
     pub unfit-slices : both (eqb (length xs) h.sizes.bytes) (eqb (length out) (pack_size h)) ≡ false
-        → WriteOutcome r p xs out xs out (answer_value (Refused (Plain SliceLength)))
-    unfolding write_checked and_then check answer_value refusal fault_number
+        → WriteOutcome r p xs out xs out (value_of (Err (Plain SliceLength)))
+    unfolding write_checked and_then check value_of refusal fault_number
     unfit-slices t = write_refused 4 (rw (e, t)) refl refl
 
     pub written-job : (xs' out' : List ℕ) → both (eqb (length xs) h.sizes.bytes) (eqb (length out) (pack_size h)) ≡ true
-        → Written r h (file_of p file) xs' out' → WriteOutcome r p xs out xs' out' (answer_value Done)
-    unfolding write_checked and_then check answer_value
+        → Written r h (file_of p file) xs' out' → WriteOutcome r p xs out xs' out' (value_of (Ok tt))
+    unfolding write_checked and_then check value_of
     written-job xs' out' t w = write_done h file (rw (e, t)) w

@@ -2,7 +2,7 @@
 #![tactic(auto)]
 
 ghost use Rattle.std.specs.Prelude.{◌≡◌, ◌*◌, eqb, length};
-ghost use Rattle.answer.specs.Values.{answer_value};
+ghost use Rattle.answer.specs.Values.{value_of};
 ghost use Rattle.field.specs.Field.{reduction};
 ghost use Rattle.shape.specs.Shapes.{both, cells};
 ghost use Rattle.data.specs.Data.{held_data};
@@ -11,26 +11,22 @@ ghost use Rattle.pack.specs.Reading.{file_of};
 ghost use Rattle.pack.proofs.Sound.{HeaderSent, JobSound};
 ghost use Rattle.writer.specs.Write.{WriteOutcome};
 
-use answer::{Answer, Fault, Refusal};
-use pack::{Header, JobRead, Section};
-use pack_writer::PackSize;
+use answer::{Fault, Refusal};
+use pack::{Header, Section};
 
 // Writes the code cube of the pack's file to `cube` and the pack of its cells that are sent to `output`. All checks come before the first byte.
-pub fn write_pack(job: &[u8], cube: &mut [u8], output: &mut [u8]) -> Answer
-    ensures { WriteOutcome reduction job.now cube.old output.old cube.new output.new (answer_value result) }
+pub fn write_pack(job: &[u8], cube: &mut [u8], output: &mut [u8]) -> Result<(), Refusal>
+    ensures { WriteOutcome reduction job.now cube.old output.old cube.new output.new (value_of result) }
 {
-    match pack::read_job(job) {
-        JobRead::Refused(f) => Answer::Refused(f),
-        JobRead::Job(h, file) => {
-            if !slices_fit(h, cube.len(), output.len()) {
-                return Answer::Refused(Refusal::Plain(Fault::SliceLength));
-            }
-            lay_file(job, cube, h, file);
-            cube::complete(cube, h.shape);
-            pack_writer::write_air(cube, output, h);
-            Answer::Done
-        }
+    let (h, file) = pack::read_job(job)?;
+    if !slices_fit(h, cube.len(), output.len()) {
+        return Err(Refusal::Plain(Fault::SliceLength));
     }
+    // The checks have passed, so that neither call refuses.
+    lay_file(job, cube, h, file);
+    let _ = cube::complete(cube, h.shape);
+    let _ = pack_writer::write_air(cube, output, h);
+    Ok(())
 }
 
 // Whether the cube and the output have the lengths that the header asks for.
@@ -38,8 +34,7 @@ fn slices_fit(h: Header, bytes: usize, output: usize) -> bool
     requires { HeaderSent h }
     ensures { result ≡ both (eqb bytes h.sizes.bytes) (eqb output (pack_size h)) }
 {
-    let asked = pack_writer::written_bytes(h);
-    let PackSize::Bytes(size) = asked else {
+    let Ok(size) = pack_writer::written_bytes(h) else {
         return false;
     };
     let sizes = h.sizes;
@@ -54,7 +49,8 @@ fn lay_file(job: &[u8], cube: &mut [u8], h: Header, file: Section)
     let sh = h.shape;
     let n = file.count;
     let bytes = cursor::count_bytes(n);
-    data::write_data(&bytes, cube, sh, 0, 0, 4);
-    data::write_data(job, cube, sh, file.at, 4, n);
-    data::set_data(cube, sh, 4 + n, 0);
+    // The file was judged against the capacity, so that no call refuses.
+    let _ = data::write_data(&bytes, cube, sh, 0, 0, 4);
+    let _ = data::write_data(job, cube, sh, file.at, 4, n);
+    let _ = data::set_data(cube, sh, 4 + n, 0);
 }

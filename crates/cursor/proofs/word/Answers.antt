@@ -1,9 +1,8 @@
--- `cursor::word` meets its contract: four bytes stay below 2^32. Assumes nothing.
+-- `cursor::word` meets its contract: std's number of four bytes is the word. Assumes nothing.
+use native.Mathlib.Omega.{arith}
 use Rattle.cursor.specs.Steps.{word}
 use Rattle.cursor.proofs.word.Goals as goal
 
 pub returns : goal.returns
 unfolding word
-returns c =
-    rw
-    (c.wide.ensures.0, c.wide-2.ensures.0, c.wide-3.ensures.0, c.wide-4.ensures.0)
+returns c = omega arith

@@ -1,20 +1,21 @@
 -- `write_data` refuses by the checks and changes nothing, or writes the bytes given.
-use Rattle.answer.specs.Values.{answer_value}
-use Rattle.answer.proofs.Values.{answer-passed}
+use Rattle.answer.proofs.Values.{value-passed, value-refused}
+use Rattle.answer.specs.Values.{value_of}
 use Rattle.data.specs.Calls.{write_done}
 use Rattle.data.proofs.Checks.{read-checked-done}
 use Rattle.data.proofs.Outcomes.{write-unfit}
 use Rattle.data.proofs.write_data.Goals as goal
 
-pub returns-in_default : goal.returns-in_default
-returns-in_default c = write-unfit _ _ _ _ _ _ _ _ c.spans_fit-answer.ensures c.in_default.is
+pub returns-in_err-spans_fit : goal.returns-in_err-spans_fit
+returns-in_err-spans_fit c = write-unfit _ _ _ _ _ _ _ (value-refused _ _ _ c.spans_fit.ensures c.in_err-spans_fit.was) _ c.from_residual.ensures.1
 
 pub put_data-requires : goal.put_data-requires
 put_data-requires c =
-    read-checked-done _ _ _ _ _ _ (answer-passed _ _ c.spans_fit-answer.ensures c.in-Done.is)
+    let (valid, size, part, room) = read-checked-done _ _ _ _ _ _ (value-passed _ _ _ c.spans_fit.ensures c.in_ok-spans_fit.was) in
+    (record { valid = valid; size = size }, part, room)
 
 pub returns : goal.returns
-unfolding answer_value
+unfolding value_of
 returns c =
-    write_done (answer-passed _ _ c.spans_fit-answer.ensures c.in-Done.is) c.put_data.ensures.0
+    write_done (value-passed _ _ _ c.spans_fit.ensures c.in_ok-spans_fit.was) c.put_data.ensures.0
     c.put_data.ensures.1

@@ -1,6 +1,6 @@
 -- `erasures::look` counts the missing cells of a line up to the third, and finds the first and the last of them and the places read.
 use mathlib.Core.Path.{◌≡◌}
-use Prim.Native.Nat.{◌-◌, ◌≤◌}
+use Prim.Native.Nat.{◌<◌}
 use Rattle.shape.specs.Flags.{missing}
 use Rattle.erasures.specs.Scan.{places_read}
 use Rattle.erasures.specs.Erasures.{Scanned}
@@ -8,7 +8,9 @@ use Rattle.erasures.proofs.look.Given as goal
 
 abbrev pub invariant-loop-i : goal.invariant-loop-i
 invariant-loop-i l =
-    (l.i ≤ l.len) × Scanned (missing l.flags) l.first l.stride l.i l.e.count l.e.first l.e.last × (l.i ≡ places_read (missing l.flags) l.first l.stride l.i)
-
-abbrev pub decreases-loop-i : goal.decreases-loop-i
-decreases-loop-i l = l.len - l.i
+    record {
+      few : l.e.count < 3;
+      scanned : Scanned (missing l.flags) l.first l.stride l.i l.e.count l.e.first l.e.last;
+      so_far : l.i ≡ places_read (missing l.flags) l.first l.stride l.i;
+      whole : l.e.read ≡ l.len;
+    }

@@ -1,5 +1,5 @@
 -- `inverse` squares once a turn: after n turns the square is the power 2^n and the product the power 2^(n + 1) - 2, so that
--- seven turns end at the power 254. The measure is the turns left.
+-- seven turns end at the power 254.
 use mathlib.Core.Path.{◌≡◌, refl, sym, ap, ap₂, ◌∙◌}
 use Prim.Native.Nat.{ℕ, ◌+◌, ◌*◌, ◌-◌, ◌^◌, ◌<◌}
 use native.Mathlib.Nat.{pow-suc}
@@ -32,12 +32,11 @@ squares-inverse : (r a n s p : ℕ) → n ≡ 7 → Squares r a n s p → p ≡ 
 unfolding inverse
 squares-inverse r a n s p e q = q.product ∙ ap (λ (m : ℕ). expt r a (2 ^ m * 2 - 2)) e
 
-pub loop-n-init : goal.loop-n-init
-loop-n-init c = (omega arith, squares-zero _ _ (omega arith))
+pub loop-init : goal.loop-init
+loop-init c = squares-zero _ _ (omega arith)
 
-pub loop-n-preserved : goal.loop-n-preserved
-loop-n-preserved c =
-    (omega arith, squares-suc _ _ _ _ _ _ _ (omega arith) c.loop-n.invariant.1 c.mul-square.ensures c.mul-product.ensures)
+pub loop-preserved : goal.loop-preserved
+loop-preserved c = squares-suc _ _ _ _ _ _ _ (omega arith) c.loop.invariant c.mul-square.ensures c.mul-product.ensures
 
 pub returns : goal.returns
-returns c = squares-inverse _ _ _ _ _ (omega arith) c.loop-n.invariant.1
+returns c = squares-inverse _ _ _ _ _ (omega arith) c.loop.invariant

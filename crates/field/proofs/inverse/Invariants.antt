@@ -1,7 +1,7 @@
 -- `inverse` squares once a turn: after n turns the square is the power 2^n and the product the power 2^(n + 1) - 2, so that
--- seven turns end at the power 254. The measure is the turns left.
+-- seven turns end at the power 254.
 use mathlib.Core.Path.{◌≡◌}
-use Prim.Native.Nat.{ℕ, ◌*◌, ◌-◌, ◌^◌, ◌≤◌}
+use Prim.Native.Nat.{ℕ, ◌*◌, ◌-◌, ◌^◌}
 use Rattle.field.specs.Field.{expt}
 use Rattle.field.proofs.inverse.Given as goal
 
@@ -9,9 +9,5 @@ pub record Squares (r a n s p : ℕ) : Type 0 where
   pub square : s ≡ expt r a (2 ^ n)
   pub product : p ≡ expt r a (2 ^ n * 2 - 2)
 
-abbrev pub invariant-loop-n : goal.invariant-loop-n
-invariant-loop-n l =
-    (l.n ≤ 7) × Squares l.reduction l.a l.n l.square l.product
-
-abbrev pub decreases-loop-n : goal.decreases-loop-n
-decreases-loop-n l = 7 - l.n
+abbrev pub invariant-loop : goal.invariant-loop
+invariant-loop l = Squares l.reduction l.a l.counter l.square l.product

@@ -1,20 +1,13 @@
--- `pow` multiplies 1 by α, once a turn: after n turns it holds the n-th power. The measure is the turns left.
-use mathlib.Core.Path.{◌≡◌, sym, ap, ◌∙◌}
-use Prim.Native.Nat.{ℕ, ◌+◌}
+-- `pow` multiplies 1 by α, once a turn: after so many turns it holds that power.
+use mathlib.Core.Path.{refl, ap, ◌∙◌}
 use native.Mathlib.Numerals.{add-one}
-use native.Mathlib.Omega.{arith}
 use Rattle.field.specs.Field.{xtime, pow}
-use Rattle.field.proofs.Power.{pow-zero, pow-suc}
 use Rattle.field.proofs.pow.Goals as goal
 
-pow_more : (r n p q : ℕ) → p ≡ pow r n → q ≡ xtime r p → q ≡ pow r (n + 1)
-pow_more r n p q e f = f ∙ ap (xtime r) e ∙ sym (pow-suc r n) ∙ ap (pow r) (sym (add-one n))
+pub loop-init : goal.loop-init
+unfolding pow
+loop-init c = refl
 
-pub loop-n-init : goal.loop-n-init
-loop-n-init c = (omega arith, sym (pow-zero _))
-
-pub loop-n-preserved : goal.loop-n-preserved
-loop-n-preserved c = (omega arith, pow_more _ _ _ _ c.loop-n.invariant.1 c.xtime-p.ensures)
-
-pub returns : goal.returns
-returns c = c.loop-n.invariant.1 ∙ ap (pow _) (omega arith)
+pub loop-preserved : goal.loop-preserved
+unfolding pow
+loop-preserved c = rw (add-one c.loop.counter) (c.xtime-p.ensures ∙ ap (xtime c.args.reduction) c.loop.invariant)

@@ -1,31 +1,33 @@
 -- `fill::check` makes the checks 1 to 5 in their order.
+use Rattle.answer.proofs.Values.{value-passed, value-refused, then-refused, handed-on}
 use mathlib.Core.Path.{◌≡◌, sym, ◌∙◌}
 use mathlib.Core.Logic.{inl, inr, ⊎_elim}
 use mathlib.Core.Bool.{true, false}
 use Rattle.answer.specs.Values.{passes}
 use Rattle.shape.specs.Shapes.{shape_checked}
-use Rattle.shape.proofs.Valid.{measure-fits}
-use Rattle.fill.proofs.Checks.{checked-shape, checked-length, checked-flags}
+use Rattle.fill.specs.Fill.{flags_checked}
+use Rattle.fill.proofs.Checks.{checked-length, checked-flags}
 use Rattle.fill.proofs.check.Goals as goal
-use Rattle.fill.proofs.check.Goals.{After-struct_known-1}
+use Rattle.fill.proofs.check.Goals.{In_ok-z}
 
-fits :
-    (c : After-struct_known-1) → shape_checked c.args.sh ≡ passes c.in-Fits.z
-fits c = measure-fits _ _ _ c.measure.ensures c.in-Fits.is
+fits : (c : In_ok-z) → shape_checked c.args.sh ≡ passes c.in_ok-z.z
+fits c = value-passed _ _ _ c.measure.ensures c.in_ok-z.was
+
+pub returns-in_err-z : goal.returns-in_err-z
+unfolding flags_checked
+returns-in_err-z c =
+    handed-on _ _ _ c.from_residual.ensures.1 (then-refused _ _ _ (value-refused _ _ _ c.measure.ensures c.in_err-z.was))
 
 pub returns-then-cube_length-z : goal.returns-then-cube_length-z
 returns-then-cube_length-z c =
-    checked-length _ _ _ _ (fits (goal.at.returns-then-cube_length-z c).After-struct_known-1) (⊎_elim (λ w. inl w) (λ w. inr w.1) c.then-cube_length-z.either)
+    checked-length _ _ _ _ (fits (goal.at.returns-then-cube_length-z c).In_ok-z) (⊎_elim (λ w. inl w) (λ w. inr w.1) c.then-cube_length-z.either)
 
-pub returns-in-Refused : goal.returns-in-Refused
-returns-in-Refused c = checked-shape _ _ _ _ _ c.measure.ensures c.in-Refused.is
+pub returns-then-not-valid : goal.returns-then-not-valid
+returns-then-not-valid c =
+    checked-flags _ _ _ _ (fits (goal.at.returns-then-not-valid c).In_ok-z) false c.if-cube_length-z.false
+    c.if-flags-z.false (sym c.valid.ensures ∙ c.if-not-valid.true)
 
-pub returns-then-valid : goal.returns-then-valid
-returns-then-valid c =
-    checked-flags _ _ _ _ (fits (goal.at.returns-then-valid c).After-struct_known-1) true c.if-cube_length-z.false
-    c.if-flags-z.false (sym c.valid.ensures ∙ c.if-valid.true)
-
-pub returns-else-valid : goal.returns-else-valid
-returns-else-valid c =
-    checked-flags _ _ _ _ (fits (goal.at.returns-else-valid c).After-struct_known-1) false c.if-cube_length-z.false
-    c.if-flags-z.false (sym c.valid.ensures ∙ c.if-valid.false)
+pub returns : goal.returns
+returns c =
+    checked-flags _ _ _ _ (fits (goal.at.returns c).In_ok-z) true c.if-cube_length-z.false
+    c.if-flags-z.false (sym c.valid.ensures ∙ c.if-not-valid.false)

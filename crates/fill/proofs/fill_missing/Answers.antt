@@ -1,5 +1,5 @@
 -- `fill::fill_missing` leaves the filling where one exists, and else says 13 and leaves the missing cells 00h.
-use native.Mathlib.Omega.{arith}
+use borrow.Author.Rules.{rules}
 use Rattle.field.specs.Field.{reduction}
 use Rattle.peel.specs.Peel.{Sized, Peeled}
 use Rattle.fill.proofs.Checks.{done-sized}
@@ -31,9 +31,9 @@ restore-requires c = verified (goal.at.restore-requires c).After-peel
 pub returns-then-verify : goal.returns-then-verify
 returns-then-verify c =
     filled-outcome _ _ _ _ _ _ _ c.requires c.clear_missing.ensures (peeled (goal.at.returns-then-verify c).After-peel) _ c.settle.ensures.remarked
-    (λ q. omega (arith, c.slice_known-4-1.given q)) (c.verify.ensures.yes_then c.if-verify.true) _ c.settle.ensures.value
+    (λ q. search rules) (c.verify.ensures.yes_then c.if-verify.true) _ c.settle.ensures.value
 
 pub returns-else-verify : goal.returns-else-verify
 returns-else-verify c =
-    contradiction-outcome _ _ _ _ _ _ _ c.requires c.clear_missing.ensures (peeled (goal.at.returns-else-verify c).After-peel) _ _ c.restore.ensures.cleared
-    c.restore.ensures.remarked (decides-false c.verify.ensures c.if-verify.false)
+    contradiction-outcome _ _ _ _ _ _ _ c.requires c.clear_missing.ensures (peeled (goal.at.returns-else-verify c).After-peel)
+    (decides-false c.verify.ensures c.if-verify.false) _ c.restore.ensures.remarked _ c.restore.ensures.cleared

@@ -1,12 +1,11 @@
 -- `line::encode` refuses a run that does not lie inside or is not fed, and else writes the codewords of its lines.
 use mathlib.Core.Path.{refl}
-use native.Mathlib.Omega.{arith}
 use lib.ListN.{length}
 use Rattle.line.specs.Run.{Inside, Feeds}
 use Rattle.span.proofs.Decision.{decides-false, decides-true, cases_done, cases-refused}
 use Rattle.line.proofs.Encoding.{parity-erasures}
 use Rattle.line.proofs.encode.Goals as goal
-use Rattle.line.proofs.encode.Goals.{Else-from-to-2}
+use Rattle.line.proofs.encode.Goals.{Else-from-to-2, then-not-inside-via-then-not-inside, then-not-inside-via-else-not-inside+then-not-inside-2, then-from-to-via-then-from-to, then-from-to-via-else-from-to+then-from-to-2}
 
 -- what is known once every refusal is past
 to_inside : (c : Else-from-to-2) → Inside c.args.to (length c.args.s.now)
@@ -15,28 +14,25 @@ to_inside c = decides-true c.inside.ensures c.if-not-inside.false
 feeds : (c : Else-from-to-2) → Feeds c.args.from c.args.to (length c.args.«data».now)
 feeds c =
     record {
-      inside = decides-true c.inside-2.ensures c.if-not-inside-2.false;
+      inside = decides-true c.inside-else-not-inside.ensures c.if-not-inside-2.false;
       places = c.if-from-to.false;
       lines = c.if-from-to-2.false;
     }
 
 pub returns-then-not-inside : goal.returns-then-not-inside
-returns-then-not-inside c = cases-refused (λ h. decides-false c.inside.ensures c.if-not-inside.true h.0) (refl, refl)
-
-pub returns-then-not-inside-2 : goal.returns-then-not-inside-2
-returns-then-not-inside-2 c = cases-refused (λ h. decides-false c.inside-2.ensures c.if-not-inside-2.true h.1.inside) (refl, refl)
-
-pub overflow_add-from : goal.overflow_add-from
-overflow_add-from c = omega (arith, (decides-true c.inside-2.ensures c.if-not-inside-2.false).few_places)
+returns-then-not-inside c =
+    elim c.then-not-inside.branch [
+      | then-not-inside-via-then-not-inside w ↦ cases-refused (λ h. decides-false c.inside.ensures w.if-not-inside.true h.0) (refl, refl)
+      | then-not-inside-via-else-not-inside+then-not-inside-2 w ↦
+          cases-refused (λ h. decides-false w.inside-else-not-inside.ensures w.if-not-inside-2.true h.1.inside) (refl, refl)
+    ]
 
 pub returns-then-from-to : goal.returns-then-from-to
-returns-then-from-to c = cases-refused (λ h. c.if-from-to.true h.1.places) (refl, refl)
-
-pub returns-then-from-to-2 : goal.returns-then-from-to-2
-returns-then-from-to-2 c = cases-refused (λ h. c.if-from-to-2.true h.1.lines) (refl, refl)
-
-pub overflow_cast-last : goal.overflow_cast-last
-overflow_cast-last c = omega (arith, (to_inside (goal.at.overflow_cast-last c).Else-from-to-2).few_places)
+returns-then-from-to c =
+    elim c.then-from-to.branch [
+      | then-from-to-via-then-from-to w ↦ cases-refused (λ h. w.if-from-to.true h.1.places) (refl, refl)
+      | then-from-to-via-else-from-to+then-from-to-2 w ↦ cases-refused (λ h. w.if-from-to-2.true h.1.lines) (refl, refl)
+    ]
 
 pub encode_blocks-requires : goal.encode_blocks-requires
 encode_blocks-requires c = (

@@ -12,6 +12,11 @@ tail0 c n left = syndrome0 (λ i. c (left + i)) (n - left)
 unfoldable pub tail1 : ℕ → (ℕ → ℕ) → ℕ → ℕ → ℕ
 tail1 r c n left = syndrome1 r (λ i. c (left + i)) (n - left)
 
+-- There is room for the syndromes of n lines, and the run has no more. The kernels have room for at most 4096.
+pub record Room (run : Run) (n : ℕ) : Type 0 where
+  pub lines : run.width ≤ n
+  pub small : n ≤ 4096
+
 -- a list with room for n bytes, which are 0
 pub record Empty (n : ℕ) (l : List ℕ) : Type 0 where
   pub room : n ≤ length l

@@ -1,26 +1,31 @@
 -- `mend::mend` meets its contract. Assumes nothing.
+use Rattle.std.specs.Result.{result_unwrap_or}
+use Rattle.answer.proofs.Values.{value-passed}
 use mathlib.Core.Path.{◌≡◌, sym, ap, ◌∙◌}
-use mathlib.Core.Bool.{false≢true}
+use mathlib.Core.Bool.{false}
 use Prim.Native.Nat.{ℕ}
 use native.Mathlib.Omega.{arith}
 use lib.ListN.{length, replicate}
 use Rattle.field.specs.Field.{reduction}
 use Rattle.answer.specs.Refusals.{fault_number}
-use Rattle.answer.specs.Values.{passes, refusal, answer_value}
-use Rattle.answer.proofs.Values.{answer-passed}
+use Rattle.answer.specs.Values.{passes, refusal, value_of}
+use Rattle.span.specs.Decision.{Decides}
+use Rattle.span.proofs.Decision.{decides-false}
+use Rattle.cube.specs.Cube.{CodeCube}
+use Rattle.cube.proofs.Checking.{check-decided}
 use Rattle.mend.specs.Mend.{Passes, mend_checked, mend_done, mend_uncorrected}
 use Rattle.mend.proofs.Checks.{MendReady, mend-ready}
 use Rattle.mend.proofs.Outcomes.{mend-unfit}
 use Rattle.mend.proofs.mend.Goals as goal
-use Rattle.mend.proofs.mend.Goals.{After-pass-2, In-Done}
+use Rattle.mend.proofs.mend.Goals.{After-pass-2, After-is_code_cube, In_ok-check}
 
 -- the checks pass
-done-here : (c : In-Done)
+done-here : (c : In_ok-check)
     → let a = c.args in
     mend_checked a.sh (length a.cube.now) a.flags.now (length a.second.now) ≡ passes tt
-done-here c = answer-passed _ _ c.check-answer.ensures c.in-Done.is
+done-here c = value-passed _ _ _ c.check.ensures c.in_ok-check.was
 
-mend-ready-here : (c : In-Done)
+mend-ready-here : (c : In_ok-check)
     → let a = c.args in
     MendReady a.sh (length a.cube.now) (length a.second.now)
 mend-ready-here c = mend-ready _ _ _ _ (done-here c)
@@ -40,40 +45,43 @@ passes-here c =
       pass3 = rw polynomial at c.pass-2.ensures;
     }
 
-pub returns-in_default : goal.returns-in_default
-returns-in_default c = mend-unfit _ _ _ _ _ _ _ c.check-answer.ensures c.in_default.is
+-- the answer of the last check
+decides-here : (c : After-is_code_cube)
+    → let a = c.args in Decides (CodeCube reduction a.sh c.pass-2.new.cube) (result_unwrap_or c.is_code_cube.result false)
+decides-here c =
+    let ok = mend-ready _ _ _ _ (value-passed _ _ _ c.check.ensures c.in_ok-check.was) in
+    check-decided _ _ _ ok.valid (c.pass-2.auto.cube ∙ c.pass.auto.cube ∙ c.first_pass.auto.second ∙ ok.room) _ c.is_code_cube.ensures
+
+pub returns-in_err-check : goal.returns-in_err-check
+returns-in_err-check c = mend-unfit _ _ _ _ _ _ _ _ c.check.ensures c.in_err-check.was c.from_residual.ensures.1
 
 pub first_pass-requires : goal.first_pass-requires
-first_pass-requires c = let ok = mend-ready-here (goal.at.first_pass-requires c).In-Done in (ok.valid, ok.size, ok.room)
+first_pass-requires c = let ok = mend-ready-here (goal.at.first_pass-requires c).In_ok-check in (ok.valid, ok.size, ok.room)
 
 pub pass-requires : goal.pass-requires
 pass-requires c =
-    let ok = mend-ready-here (goal.at.pass-requires c).In-Done in
+    let ok = mend-ready-here (goal.at.pass-requires c).In_ok-check in
     (ok.valid, c.first_pass.auto.second ∙ ok.room, omega arith, omega arith)
 
 pub pass-requires-2 : goal.pass-requires-2
 pass-requires-2 c =
-    let ok = mend-ready-here (goal.at.pass-requires-2 c).In-Done in
+    let ok = mend-ready-here (goal.at.pass-requires-2 c).In_ok-check in
     let first = c.first_pass in
     (ok.valid, c.pass.auto.cube ∙ first.auto.second ∙ ok.room, omega arith, omega arith)
 
-pub is_code_cube-requires : goal.is_code_cube-requires
-is_code_cube-requires c =
-    let ok = mend-ready-here (goal.at.is_code_cube-requires c).In-Done in
-    let first = c.first_pass in
-    (ok.valid, c.pass-2.auto.cube ∙ c.pass.auto.cube ∙ first.auto.second ∙ ok.room)
+pub returns-then-unwrap_or : goal.returns-then-unwrap_or
+unfolding value_of
+returns-then-unwrap_or c =
+    let here = decides-here (goal.at.returns-then-unwrap_or c).After-is_code_cube in
+    mend_done (done-here (goal.at.returns-then-unwrap_or c).In_ok-check) (passes-here (goal.at.returns-then-unwrap_or c).After-pass-2)
+    (here.yes_then (sym c.unwrap_or.ensures ∙ c.if-unwrap_or.true))
 
-pub returns-then-is_code_cube : goal.returns-then-is_code_cube
-unfolding answer_value
-returns-then-is_code_cube c =
-    mend_done (done-here (goal.at.returns-then-is_code_cube c).In-Done) (passes-here (goal.at.returns-then-is_code_cube c).After-pass-2) (c.is_code_cube.ensures.yes_then c.if-is_code_cube.true)
-
-pub returns-else-is_code_cube : goal.returns-else-is_code_cube
-unfolding answer_value refusal fault_number
-returns-else-is_code_cube c =
-    let first = c.first_pass in
-    mend_uncorrected (done-here (goal.at.returns-else-is_code_cube c).In-Done) _ (passes-here (goal.at.returns-else-is_code_cube c).After-pass-2)
-    (λ code. false≢true (sym c.if-is_code_cube.false ∙ c.is_code_cube.ensures.yes_when code))
-    (c.clear.ensures
+pub returns-else-unwrap_or : goal.returns-else-unwrap_or
+unfolding value_of refusal fault_number
+returns-else-unwrap_or c =
+    let here = decides-here (goal.at.returns-else-unwrap_or c).After-is_code_cube in
+    mend_uncorrected (done-here (goal.at.returns-else-unwrap_or c).In_ok-check) _ (passes-here (goal.at.returns-else-unwrap_or c).After-pass-2)
+    (decides-false here (sym c.unwrap_or.ensures ∙ c.if-unwrap_or.false))
+    (c.fill.ensures.after (λ y e. e)
     ∙ ap (λ (n : ℕ). replicate n 0)
-    (c.pass-2.auto.cube ∙ c.pass.auto.cube ∙ first.auto.second))
+    (c.pass-2.auto.cube ∙ c.pass.auto.cube ∙ c.first_pass.auto.second))

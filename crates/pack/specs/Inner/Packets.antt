@@ -1,11 +1,9 @@
 -- What the private functions of `packets` answer.
-use Rattle.std.specs.Prelude.{Bool, cond, List, ℕ, ◌≤◌, ◌<◌, leb, ltb}
+use Rattle.std.specs.Prelude.{Bool, cond, List, ℕ, ◌≤◌, ◌<◌, leb, ltb, Option, Some, None}
 use Rattle.shape.specs.declared.Shape.{Shape}
 use Rattle.shape.specs.Shapes.{both, cell}
 use Rattle.pack.specs.declared.Header.{Header}
 use Rattle.pack.specs.declared.Section.{Section}
-use Rattle.pack.specs.declared.PacketRead.{PacketRead}
-use Rattle.pack.specs.declared.PacketRead.TheVariants.{Names, Absent}
 use Rattle.pack.specs.Packets.{OnCube}
 
 -- the limits of `Stands` on a header
@@ -13,9 +11,9 @@ unfoldable pub within_limits : Shape → Bool
 within_limits sh = both (leb sh.l1 255) (both (leb sh.l2 255) (leb sh.w 1024))
 
 -- the cell that a, b and c name, where they are below their lengths, and where its bytes begin
-unfoldable pub named_by : Shape → ℕ → ℕ → ℕ → ℕ → PacketRead
+unfoldable pub named_by : Shape → ℕ → ℕ → ℕ → ℕ → Option (ℕ × ℕ)
 named_by sh a b c at =
-    cond (both (ltb a sh.l1) (both (ltb b sh.l2) (ltb c sh.l3))) (Names (cell sh a b c) at) Absent
+    cond (both (ltb a sh.l1) (both (ltb b sh.l2) (ltb c sh.l3))) (Some (cell sh a b c, at)) None
 
 -- what `first_off` answers: the first packet that names no cell of the cube, or the count
 pub record FirstOff (p : List ℕ) (h : Header) (s : Section) (r : ℕ) : Type 0 where

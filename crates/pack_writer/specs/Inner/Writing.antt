@@ -1,5 +1,5 @@
 -- What the private functions of `writing` leave at a cursor.
-use Rattle.std.specs.Prelude.{◌≡◌, cond, List, map, ℕ, ◌+◌, ◌-◌, ◌*◌, ◌/◌, ◌%◌, leb, ltb}
+use Rattle.std.specs.Prelude.{◌≡◌, cond, List, map, ℕ, ◌+◌, ◌-◌, ◌*◌, ◌/◌, ◌%◌, min, ltb}
 use Rattle.shape.specs.declared.Shape.{Shape}
 use Rattle.shape.specs.Shapes.{both}
 use Rattle.pack.specs.declared.Header.{Header}
@@ -19,13 +19,9 @@ packets_from sh xs n k = map (packet_of sh xs) (up_from n k)
 unfoldable pub packets_below : Header → List ℕ → ℕ → List Packet
 packets_below h xs n = map (packet_of h.shape xs) (sent_below h n)
 
--- the lesser of two numbers
-unfoldable pub least : ℕ → ℕ → ℕ
-least a b = cond (leb a b) a b
-
 -- How many of the first l1 - 2 cells of row q are sent: all of them in a parity row, and in a data row those in use.
 unfoldable pub row_sent : Header → ℕ → ℕ
 row_sent h q =
     cond (both (ltb (q % h.shape.l2) (h.shape.l2 - 2)) (ltb (q / h.shape.l2) (h.shape.l3 - 2)))
-    (least (h.used - (h.shape.l1 - 2) * (q % h.shape.l2 + (h.shape.l2 - 2) * (q / h.shape.l2))) (h.shape.l1 - 2))
+    (min (h.used - (h.shape.l1 - 2) * (q % h.shape.l2 + (h.shape.l2 - 2) * (q / h.shape.l2))) (h.shape.l1 - 2))
     (h.shape.l1 - 2)

@@ -1,4 +1,5 @@
 -- `plan::write_plan` meets its contract.
+use Rattle.std.proofs.lemmas.Result.{err_from_is_err_and}
 use Rattle.span.proofs.Decision.{decides-false, decides-true}
 use Rattle.plan.proofs.Answers.{write-unfit, write_refused, write-told}
 use Rattle.plan.proofs.write_plan.Goals as goal
@@ -9,12 +10,14 @@ returns-then-not-fits c = write-unfit _ _ _ _ (decides-false c.fits.ensures c.if
 pub put_plan-requires : goal.put_plan-requires
 put_plan-requires c = (decides-true c.fits.ensures c.if-not-fits.false).3
 
-pub returns-in-Refused : goal.returns-in-Refused
-returns-in-Refused c =
-    write_refused _ _ _ _ _ c.check_lists.ensures (decides-true c.fits.ensures c.if-not-fits.false) _ c.in-Refused.is
+pub returns-in_err-check_lists : goal.returns-in_err-check_lists
+returns-in_err-check_lists c =
+    let (f, is, same) = err_from_is_err_and c.from_residual.result c.from_residual.ensures.1 in
+    rw (is, same)
+    (write_refused _ _ _ _ _ c.check_lists.ensures (decides-true c.fits.ensures c.if-not-fits.false) _ c.in_err-check_lists.was)
 
-pub returns-in-Done : goal.returns-in-Done
-returns-in-Done c =
+pub returns : goal.returns
+returns c =
     let fit = decides-true c.fits.ensures c.if-not-fits.false in
     let judged = c.check_lists.ensures in
-    write-told _ _ _ _ _ judged fit c.in-Done.is _ c.put_plan.ensures
+    write-told _ _ _ _ _ judged fit c.in_ok-check_lists.was _ c.put_plan.ensures

@@ -10,7 +10,7 @@ loop-k-init g c = (c.requires.0, appends_none _ _ _ _)
 pub piece-end-requires : goal.piece-end-requires
 piece-end-requires g c =
     let e = c.count-k-end.ensures in
-    (c.loop-k.invariant.0, c.requires.1, c.requires.2, c.requires.3, omega arith)
+    (c.loop-k.invariant.0, omega arith)
 
 pub loop-k-preserved : goal.loop-k-preserved
 loop-k-preserved g c = (

@@ -1,24 +1,22 @@
 -- What the functions that gather a pack ask and answer.
-use Rattle.std.specs.Prelude.{◌≡◌, List, ℕ, ◌*◌, length}
-use Rattle.answer.specs.Values.{passes}
+use Rattle.std.specs.Prelude.{◌≡◌, cond, List, ℕ, ◌*◌, eqb, length, Result, Ok, Err}
+use Rattle.answer.specs.declared.Refusal.{Refusal}
+use Rattle.answer.specs.Values.{gives, passes, refusal}
 use Rattle.shape.specs.Shapes.{Valid, cells}
 use Rattle.pack.specs.declared.Header.{Header}
 use Rattle.pack.specs.declared.Section.{Section}
 use Rattle.pack.specs.Reading.{air_of}
 use Rattle.receiver.specs.declared.Counts.{Counts}
-use Rattle.receiver.specs.declared.gathering.Gathering.{Gathering}
-use Rattle.receiver.specs.declared.gathering.Gathering.TheVariants.{Ends, Whole}
-use Rattle.receiver.specs.Gathering.{Gathered, ends, whole}
-use Rattle.receiver.specs.Receive.{ending_value}
+use Rattle.receiver.specs.Gathering.{left, Gathered, ends, whole, no_counts}
 
--- what gathering answers, and with which counts
-unfoldable pub gathering_value : Gathering → Gathered
-gathering_value (Ends e k) = ends (ending_value e)
-gathering_value (Whole k) = whole
+-- what gathering answers, the cells left, none of a whole cube; and with which counts
+unfoldable pub gathering_value : Result (ℕ × Counts) Refusal → Gathered
+gathering_value (Ok a) = cond (eqb a.0 0) whole (ends (gives (left a.0)))
+gathering_value (Err f) = ends (refusal f)
 
-unfoldable pub gathering_counts : Gathering → Counts
-gathering_counts (Ends e k) = k
-gathering_counts (Whole k) = k
+unfoldable pub gathering_counts : Result (ℕ × Counts) Refusal → Counts
+gathering_counts (Ok a) = a.1
+gathering_counts (Err f) = no_counts
 
 -- a pack that was read, and a cube and flags of its lengths
 pub record Fits (p : List ℕ) (h : Header) (s : Section) (xs fs : List ℕ) : Type 0 where

@@ -1,13 +1,10 @@
 -- `rows::gather` copies byte after byte into an array of zeros.
 use mathlib.Core.Path.{◌≡◌}
-use Prim.Native.Nat.{◌+◌, ◌-◌, ◌*◌, ◌≤◌}
+use Prim.Native.Nat.{◌+◌, ◌*◌}
 use lib.ListN.{length, get_or}
 use Rattle.strip.proofs.Updated.{Updated}
 use Rattle.rows.proofs.gather.Given as goal
 
 abbrev pub invariant-loop-t : goal.invariant-loop-t
 invariant-loop-t l =
-    (l.t ≤ 64) × (length l.initial.c ≡ 64) × Updated (λ p x. get_or l.s (l.at + l.gap * p) 0) 0 l.t l.initial.c l.c
-
-abbrev pub decreases-loop-t : goal.decreases-loop-t
-decreases-loop-t l = 64 - l.t
+    (length l.initial.c ≡ 64) × Updated (λ p x. get_or l.s (l.at + l.gap * p) 0) 0 l.t l.initial.c l.c

@@ -5,9 +5,6 @@ use Rattle.span.proofs.Decision.{decides-yes, decides-no, decides-false, decides
 use Rattle.rows.proofs.Moving.{within-lanes, row-begins, lanes-rows, rows-lanes}
 use Rattle.rows.proofs.strip_of_rows.Goals as goal
 
-pub loop-byte-init : goal.loop-byte-init
-loop-byte-init c = (omega arith, λ k h. absurd (omega arith))
-
 pub moved-requires : goal.moved-requires
 moved-requires c = omega (arith, row-begins _ _ _ _ c.requires)
 
@@ -19,10 +16,8 @@ returns-then-not-lanes c =
     decides-no (λ h. decides-false (rw c.moved.ensures at c.lanes.ensures) c.if-not-lanes.true (rows-lanes _ _ _ _ _ c.loop-byte-test.true h))
 
 pub loop-byte-preserved : goal.loop-byte-preserved
-loop-byte-preserved c = (
-  omega arith,
-  below_more _ _ c.loop-byte.invariant.1 (decides-true (rw c.moved.ensures at c.lanes.ensures) c.if-not-lanes.false),
-)
+loop-byte-preserved c =
+    below_more _ _ c.loop-byte.invariant (decides-true (rw c.moved.ensures at c.lanes.ensures) c.if-not-lanes.false)
 
 pub returns : goal.returns
-returns c = decides-yes (lanes-rows _ _ _ _ (λ t h. c.loop-byte.invariant.1 t (omega arith)))
+returns c = decides-yes (lanes-rows _ _ _ _ (λ t h. c.loop-byte.invariant t (omega arith)))

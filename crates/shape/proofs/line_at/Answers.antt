@@ -4,15 +4,14 @@ use native.Mathlib.Nat.{le_trans, mul-le-mul, div-le_self, mod-le}
 use native.Mathlib.Omega.{arith}
 use borrow.Author.Tests.{lt-ltb, le-ltb}
 use Rattle.answer.specs.Refusals.{fault_number}
-use Rattle.answer.specs.Values.{check, checked, refusal}
-use Rattle.shape.specs.Shapes.{line_value}
+use Rattle.answer.specs.Values.{check, checked, refusal, value_of}
 use Rattle.shape.proofs.line_at.Goals as goal
 
 first-le : (m stride len : ℕ) → m ≤ 65025 → stride ≤ 65025 → len ≤ 255 → m / stride * (stride * len) ≤ 1078203909375
 first-le m stride len p q r = mul-le-mul (le_trans (div-le_self m stride) p) (mul-le-mul q r)
 
 pub returns-then-lines-m : goal.returns-then-lines-m
-unfolding line_value refusal fault_number checked check
+unfolding value_of refusal fault_number checked check
 returns-then-lines-m c = rw (le-ltb c.args.m c.args.lines c.if-lines-m.true)
 
 pub overflow_mul-first : goal.overflow_mul-first
@@ -33,5 +32,5 @@ overflow_add-first c =
     )
 
 pub returns : goal.returns
-unfolding line_value checked check
+unfolding value_of checked check
 returns c = rw (lt-ltb c.args.m c.args.lines c.if-lines-m.false)

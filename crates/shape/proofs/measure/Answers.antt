@@ -5,8 +5,8 @@ use Prim.Native.Nat.{◌-◌, ◌*◌, ◌≤◌}
 use native.Mathlib.Omega.{arith}
 use borrow.Author.Tests.{le-leb, lt-leb}
 use Rattle.answer.specs.Refusals.{fault_number}
-use Rattle.answer.specs.Values.{check, checked, refusal}
-use Rattle.shape.specs.Shapes.{within, lengths_fit, cells, capacity, sizes, shape_checked, measured_value}
+use Rattle.answer.specs.Values.{check, checked, refusal, value_of}
+use Rattle.shape.specs.Shapes.{within, lengths_fit, cells, capacity, sizes, shape_checked}
 use Rattle.shape.proofs.Valid.{Lengths, lengths-parts, within-parts, area-le, volume-le, data-length-le, bytes_le}
 use Rattle.shape.proofs.measure.Goals as goal
 use Rattle.shape.proofs.measure.Goals.{Else-bytes-gt268435456, Else-not-lengths_fit, Else-not-within}
@@ -33,11 +33,11 @@ data-volume c =
 -- ---- the needs
 
 pub returns-then-not-lengths_fit : goal.returns-then-not-lengths_fit
-unfolding measured_value refusal fault_number shape_checked check checked
+unfolding value_of refusal fault_number shape_checked check checked
 returns-then-not-lengths_fit c = rw (sym c.lengths_fit.ensures ∙ c.if-not-lengths_fit.true)
 
 pub returns-then-not-within : goal.returns-then-not-within
-unfolding measured_value refusal fault_number shape_checked check checked
+unfolding value_of refusal fault_number shape_checked check checked
 returns-then-not-within c = rw (lengths-checked (goal.at.returns-then-not-within c).Else-not-lengths_fit, sym c.within.ensures ∙ c.if-not-within.true)
 
 pub overflow_mul-cells : goal.overflow_mul-cells
@@ -56,7 +56,7 @@ overflow_mul-bytes c =
     omega (arith, bytes_le _ _ (within-parts 1 1024 _ (width-checked (goal.at.overflow_mul-bytes c).Else-not-within)).1 (volume-le _ _ _ l.l1_high l.l2_high l.l3_high))
 
 pub returns-then-bytes-gt268435456 : goal.returns-then-bytes-gt268435456
-unfolding measured_value refusal fault_number shape_checked check checked cells
+unfolding value_of refusal fault_number shape_checked check checked cells
 returns-then-bytes-gt268435456 c = rw (lengths-checked (goal.at.returns-then-bytes-gt268435456 c).Else-not-lengths_fit, width-checked (goal.at.returns-then-bytes-gt268435456 c).Else-not-within, lt-leb _ _ c.if-bytes-gt268435456.true)
 
 pub overflow_sub-capacity : goal.overflow_sub-capacity
@@ -80,5 +80,5 @@ pub overflow_mul-capacity-3 : goal.overflow_mul-capacity-3
 overflow_mul-capacity-3 c = omega (arith, bytes_le _ _ (within-parts 1 1024 _ (width-checked (goal.at.overflow_mul-capacity-3 c).Else-not-within)).1 (data-volume (goal.at.overflow_mul-capacity-3 c).Else-bytes-gt268435456))
 
 pub returns : goal.returns
-unfolding measured_value shape_checked check checked sizes cells capacity
+unfolding value_of shape_checked check checked sizes cells capacity
 returns c = rw (lengths-checked (goal.at.returns c).Else-not-lengths_fit, width-checked (goal.at.returns c).Else-not-within, le-leb _ _ c.if-bytes-gt268435456.false)

@@ -1,14 +1,10 @@
 -- `solver::search` finds the first place below n at which v0 times the power of α is v1.
 use mathlib.Core.Path.{◌≡◌}
-use Prim.Native.Nat.{ℕ, ◌-◌, ◌≤◌, ◌<◌}
+use Prim.Native.Nat.{ℕ, ◌<◌}
 use Rattle.field.specs.Field.{mul, pow}
 use Rattle.solver.proofs.search.Given as goal
 
 abbrev pub invariant-loop-j : goal.invariant-loop-j
 invariant-loop-j l =
-    (l.j ≤ l.n)
-    × (l.p ≡ mul l.reduction (pow l.reduction l.j) l.v0)
+    (l.p ≡ mul l.reduction (pow l.reduction l.j) l.v0)
     × ((i : ℕ) → i < l.j → l.v1 ≡ mul l.reduction (pow l.reduction i) l.v0 → ⊥)
-
-abbrev pub decreases-loop-j : goal.decreases-loop-j
-decreases-loop-j l = l.n - l.j

@@ -9,15 +9,6 @@ use Rattle.solver.proofs.second_row.Goals as goal
 pub returns-then-j-k : goal.returns-then-j-k
 returns-then-j-k c = rows_same _ _ _ c.if-j-k.true
 
-pub pow-x-requires : goal.pow-x-requires
-pow-x-requires c = tt
-
-pub pow-y-requires : goal.pow-y-requires
-pow-y-requires c = tt
-
-pub invert-m-requires : goal.invert-m-requires
-invert-m-requires c = tt
-
 pub returns : goal.returns
 unfolding entry adjugate inverted
 returns c =

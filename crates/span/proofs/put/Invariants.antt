@@ -1,10 +1,6 @@
 -- `put` writes byte after byte: those below i are copied, all others kept.
-use Prim.Native.Nat.{◌≤◌, ◌-◌}
 use Rattle.span.specs.Span.{Copied}
 use Rattle.span.proofs.put.Given as goal
 
 abbrev pub invariant-loop-i : goal.invariant-loop-i
-invariant-loop-i l = (l.i ≤ 16) × Copied l.c 0 l.initial.dst l.to l.i l.dst
-
-abbrev pub decreases-loop-i : goal.decreases-loop-i
-decreases-loop-i l = 16 - l.i
+invariant-loop-i l = Copied l.c 0 l.initial.dst l.to l.i l.dst

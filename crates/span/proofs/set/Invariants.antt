@@ -1,11 +1,8 @@
--- `set` tests that the span lies inside and writes byte after byte: those below i are v, all others kept.
-use Prim.Native.Nat.{◌+◌, ◌-◌, ◌≤◌}
-use lib.ListN.{length}
-use Rattle.span.specs.Span.{SetTo}
+-- `set` writes byte after byte of the span: those below the index are v.
+use mathlib.Core.Path.{◌≡◌}
+use Prim.Native.Nat.{ℕ, ◌<◌}
+use lib.ListN.{get_or}
 use Rattle.span.proofs.set.Given as goal
 
-abbrev pub invariant-loop-i : goal.invariant-loop-i
-invariant-loop-i l = (l.i ≤ l.n) × (l.at + l.n ≤ length l.initial.s) × SetTo l.initial.s l.at l.i l.v l.s
-
-abbrev pub decreases-loop-i : goal.decreases-loop-i
-decreases-loop-i l = l.n - l.i
+abbrev pub invariant-loop-x : goal.invariant-loop-x
+invariant-loop-x l = (k : ℕ) → k < l.x-index → get_or l.x-items k 0 ≡ l.v

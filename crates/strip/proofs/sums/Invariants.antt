@@ -1,6 +1,5 @@
 -- `strip::sums` adds two arrays byte by byte.
 use mathlib.Core.Path.{◌≡◌}
-use Prim.Native.Nat.{◌-◌, ◌≤◌}
 use lib.ListN.{length, get_or}
 use Rattle.field.specs.Field.{add}
 use Rattle.strip.proofs.Updated.{Updated}
@@ -8,7 +7,4 @@ use Rattle.strip.proofs.sums.Given as goal
 
 abbrev pub invariant-loop-t : goal.invariant-loop-t
 invariant-loop-t l =
-    (l.t ≤ 64) × (length l.initial.c ≡ 64) × Updated (λ p x. add (get_or l.a p 0) (get_or l.b p 0)) 0 l.t l.initial.c l.c
-
-abbrev pub decreases-loop-t : goal.decreases-loop-t
-decreases-loop-t l = 64 - l.t
+    (length l.initial.c ≡ 64) × Updated (λ p x. add (get_or l.a p 0) (get_or l.b p 0)) 0 l.t l.initial.c l.c

@@ -1,16 +1,10 @@
 -- What the functions of `lines` answer.
-use Rattle.std.specs.Prelude.{◌≡◌, cond, List, [], ◌∷◌, ℕ, zero, suc, ◌+◌, ◌*◌, ◌/◌, ◌%◌, ◌≤◌, ◌<◌, ltb, eqb, length, get_or}
+use Rattle.std.specs.Prelude.{◌≡◌, cond, List, [], ◌∷◌, ℕ, zero, suc, ◌+◌, ◌*◌, ◌/◌, ◌%◌, ◌≤◌, ◌<◌, ltb, eqb, length, get_or, Option, Some, None}
 use Rattle.shape.specs.declared.Shape.{Shape}
 use Rattle.pack.specs.Packs.{Packet}
 use Rattle.printing.specs.Text.{triple}
 use Rattle.text.specs.Form.{packet_line, first_line, Formed, Numbers}
 use Rattle.text.specs.Inner.Numbers.{NoDigit, Short, Found, Never}
-use Rattle.text.specs.declared.lines.ThreeRead.{ThreeRead}
-use Rattle.text.specs.declared.lines.ThreeRead.TheVariants.{Three, Nothing as NoThree}
-use Rattle.text.specs.declared.lines.PacketLine.{PacketLine}
-use Rattle.text.specs.declared.lines.PacketLine.TheVariants.{Line as APacket, Nothing as NoPacket}
-use Rattle.text.specs.declared.lines.ShapeLine.{ShapeLine}
-use Rattle.text.specs.declared.lines.ShapeLine.TheVariants.{Line as AShape, Nothing as NoShape}
 
 -- anything may follow
 abbrev pub Any : List ℕ → Type 0
@@ -67,15 +61,15 @@ three_of label z = triple label z.0 z.1.0 z.1.1
 abbrev pub ThreeShort : ℕ × (ℕ × ℕ) → Type 0
 ThreeShort z = Short z.0 × (Short z.1.0 × Short z.1.1)
 
-pub data ThreeOutcome (label t : List ℕ) (at : ℕ) : ThreeRead → Type 0 where
-  three_found : (a b c end : ℕ) → Found (three_of label) ThreeShort NoDigit t at (a, (b, c)) end → ThreeOutcome label t at (Three a b c end)
-  three_nothing : Never (three_of label) ThreeShort NoDigit t at → ThreeOutcome label t at NoThree
+pub data ThreeOutcome (label t : List ℕ) (at : ℕ) : Option (ℕ × ℕ × ℕ × ℕ) → Type 0 where
+  three_found : (a b c end : ℕ) → Found (three_of label) ThreeShort NoDigit t at (a, (b, c)) end → ThreeOutcome label t at (Some (a, b, c, end))
+  three_nothing : Never (three_of label) ThreeShort NoDigit t at → ThreeOutcome label t at None
 
-pub data PacketLineOutcome (w : ℕ) (t : List ℕ) (at : ℕ) : PacketLine → Type 0 where
+pub data PacketLineOutcome (w : ℕ) (t : List ℕ) (at : ℕ) : Option (ℕ × ℕ × ℕ × ℕ) → Type 0 where
   packet_found :
-      (k : Packet) (end : ℕ) → Found packet_line (Formed w) Any t at k end → PacketLineOutcome w t at (APacket k.a k.b k.c end)
-  packet_nothing : Never packet_line (Formed w) Any t at → PacketLineOutcome w t at NoPacket
+      (k : Packet) (end : ℕ) → Found packet_line (Formed w) Any t at k end → PacketLineOutcome w t at (Some (k.a, k.b, k.c, end))
+  packet_nothing : Never packet_line (Formed w) Any t at → PacketLineOutcome w t at None
 
-pub data ShapeLineOutcome (t : List ℕ) : ShapeLine → Type 0 where
-  shape_found : (sh : Shape) (end : ℕ) → Found first_line Numbers Any t 0 sh end → ShapeLineOutcome t (AShape sh end)
-  shape_nothing : Never first_line Numbers Any t 0 → ShapeLineOutcome t NoShape
+pub data ShapeLineOutcome (t : List ℕ) : Option (Shape × ℕ) → Type 0 where
+  shape_found : (sh : Shape) (end : ℕ) → Found first_line Numbers Any t 0 sh end → ShapeLineOutcome t (Some (sh, end))
+  shape_nothing : Never first_line Numbers Any t 0 → ShapeLineOutcome t None

@@ -1,7 +1,5 @@
 -- What stands at a place of a text, and what the functions of `numbers` answer.
-use Rattle.std.specs.Prelude.{◌≡◌, List, ◌∷◌, ◌++◌, ℕ, ◌+◌, ◌≤◌, ◌<◌, length, get_or, drop}
-use Rattle.text.specs.declared.numbers.NumberRead.{NumberRead}
-use Rattle.text.specs.declared.numbers.NumberRead.TheVariants.{Number, Nothing}
+use Rattle.std.specs.Prelude.{◌≡◌, List, ◌∷◌, ◌++◌, ℕ, ◌+◌, ◌≤◌, ◌<◌, length, get_or, drop, Option, Some, None}
 
 -- no digit begins it
 abbrev pub NoDigit : List ℕ → Type 0
@@ -26,10 +24,10 @@ Short n = n < 100000
 
 -- Every number below 100,000 that stands there with no digit behind it is the one that was found. `print` is `decimal`, or that behind a
 -- label.
-pub data NumberOutcome (print : ℕ → List ℕ) (t : List ℕ) (at : ℕ) : NumberRead → Type 0 where
-  number_found : (v end : ℕ) → Found print Short NoDigit t at v end → NumberOutcome print t at (Number v end)
-  number_nothing : Never print Short NoDigit t at → NumberOutcome print t at Nothing
+pub data NumberOutcome (print : ℕ → List ℕ) (t : List ℕ) (at : ℕ) : Option (ℕ × ℕ) → Type 0 where
+  number_found : (v end : ℕ) → Found print Short NoDigit t at v end → NumberOutcome print t at (Some (v, end))
+  number_nothing : Never print Short NoDigit t at → NumberOutcome print t at None
 
-pub record DigitOutcome (t : List ℕ) (at r : ℕ) : Type 0 where
-  pub digit : r ≤ 9 → (at < length t) × (drop at t ≡ (48 + r) ∷ drop (at + 1) t)
-  pub none : 9 < r → NoDigit (drop at t)
+pub data DigitOutcome (t : List ℕ) (at : ℕ) : Option ℕ → Type 0 where
+  digit_found : (d : ℕ) → d ≤ 9 → at < length t → drop at t ≡ (48 + d) ∷ drop (at + 1) t → DigitOutcome t at (Some d)
+  digit_nothing : NoDigit (drop at t) → DigitOutcome t at None

@@ -1,13 +1,13 @@
 -- What the functions of `scan` answer.
-use Rattle.std.specs.Prelude.{◌≡◌, List, ℕ, ◌+◌, ◌≤◌, ◌<◌, length, take}
+use Rattle.std.specs.Prelude.{◌≡◌, List, ℕ, ◌+◌, ◌≤◌, ◌<◌, length, take, Result, Ok, Err}
+use Rattle.answer.specs.declared.Refusal.{Refusal}
+use Rattle.answer.specs.declared.Refusal.TheVariants.{Line}
 use Rattle.shape.specs.declared.Shape.{Shape}
 use Rattle.pack.specs.Packs.{Packet}
 use Rattle.pack.specs.Packets.{packet_no}
 use Rattle.text.specs.Form.{packet_lines, first_line, text_of, InForm, Broken}
 use Rattle.text.specs.Text.{Inside}
 use Rattle.text.specs.declared.scan.Contents.{Contents}
-use Rattle.text.specs.declared.scan.Scanned.{Scanned}
-use Rattle.text.specs.declared.scan.Scanned.TheVariants.{Whole, Broken as BrokenAt}
 
 -- the first packet that is not inside, or the number of packets
 pub record FirstOut (sh : Shape) (ks : List Packet) (r : ℕ) : Type 0 where
@@ -23,9 +23,9 @@ pub record Scanning (t : List ℕ) (s : Contents) (ks : List Packet) : Type 0 wh
   pub lines : s.lines ≡ length (first_line s.shape)
   pub inside : FirstOut s.shape ks s.inside
 
-pub data ScanOutcome (t : List ℕ) : Scanned → Type 0 where
-  scan_whole : (s : Contents) (ks : List Packet) → Scanning t s ks → ScanOutcome t (Whole s)
-  scan_broken : (n : ℕ) → Broken t n → ScanOutcome t (BrokenAt n)
+pub data ScanOutcome (t : List ℕ) : Result Contents Refusal → Type 0 where
+  scan_whole : (s : Contents) (ks : List Packet) → Scanning t s ks → ScanOutcome t (Ok s)
+  scan_broken : (n : ℕ) → Broken t n → ScanOutcome t (Err (Line n))
 
 -- the packets inside from the first on, with packet n counted
 pub data InsideNext (sh : Shape) (n inside a b c : ℕ) : ℕ → Type 0 where

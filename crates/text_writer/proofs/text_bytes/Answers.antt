@@ -1,21 +1,21 @@
 -- `text_writer::text_bytes` meets its contract. Assumes nothing.
-use Rattle.answer.specs.Values.{and_then, checked}
-use Rattle.answer.proofs.Values.{then-refused}
-use Rattle.pack.specs.Reading.{plain_air_of}
-use Rattle.pack.proofs.Sound.{air-told, air-refused, plain-air}
-use Rattle.pack_writer.specs.Writing.{size_value}
+use native.Mathlib.Omega.{arith}
+use Rattle.answer.specs.Values.{and_then, checked, value_of}
+use Rattle.answer.proofs.Values.{then-refused, value-passed, value-refused, handed-on}
+use Rattle.pack.proofs.Sound.{plain-air, air-sound}
 use Rattle.text.specs.Text.{text_size_checked}
 use Rattle.text_writer.proofs.text_bytes.Goals as goal
 
-pub text_length-requires : goal.text_length-requires
-text_length-requires c = plain-air _ _ _ (air-told _ _ c.read_plain_air.ensures _ _ c.in-Air.is)
+pub returns-in_err-h : goal.returns-in_err-h
+unfolding text_size_checked
+returns-in_err-h c =
+    handed-on _ _ _ c.from_residual.ensures.1 (then-refused _ _ _ (value-refused _ _ _ c.read_plain_air.ensures c.in_err-h.was))
 
-pub returns-in-Refused : goal.returns-in-Refused
-unfolding text_size_checked size_value
-returns-in-Refused c = then-refused _ _ _ (air-refused _ _ c.read_plain_air.ensures _ c.in-Refused.is)
+pub invariant_of-text_length : goal.invariant_of-text_length
+invariant_of-text_length c =
+    let plain = value-passed _ _ _ c.read_plain_air.ensures c.in_ok-h.was in
+    record { plain = plain; few = omega (arith, (air-sound _ _ _ (plain-air _ _ _ plain)).few (λ k. omega (arith, c.type_inv.air k))) }
 
-pub returns-in-Air : goal.returns-in-Air
-unfolding text_size_checked size_value and_then checked
-returns-in-Air c =
-    let read = air-told (plain_air_of _) _ c.read_plain_air.ensures _ _ c.in-Air.is in
-    rw (read, c.text_length.ensures)
+pub returns : goal.returns
+unfolding text_size_checked value_of and_then checked
+returns c = rw (value-passed _ _ _ c.read_plain_air.ensures c.in_ok-h.was, c.text_length.ensures)

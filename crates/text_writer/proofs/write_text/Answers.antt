@@ -1,10 +1,16 @@
 -- `text_writer::write_text` meets its contract. Assumes nothing.
-use Rattle.pack.proofs.Sound.{air-told, air-refused}
+use native.Mathlib.Omega.{arith}
+use mathlib.Core.Path.{refl}
+use Rattle.answer.proofs.Values.{value-passed, value-refused, handed-on}
+use Rattle.pack.proofs.Sound.{plain-air, air-sound}
 use Rattle.text_writer.proofs.TextLines.{text-unread}
 use Rattle.text_writer.proofs.write_text.Goals as goal
 
-pub write_read-requires : goal.write_read-requires
-write_read-requires c = air-told _ _ c.read_plain_air.ensures _ _ c.in-Air.is
+pub returns-in_err-h : goal.returns-in_err-h
+returns-in_err-h c =
+    rw (handed-on _ _ _ c.from_residual.ensures.1 refl) (text-unread _ _ _ (value-refused _ _ _ c.read_plain_air.ensures c.in_err-h.was))
 
-pub returns-in-Refused : goal.returns-in-Refused
-returns-in-Refused c = text-unread _ _ _ (air-refused _ _ c.read_plain_air.ensures _ c.in-Refused.is)
+pub invariant_of-write : goal.invariant_of-write
+invariant_of-write c =
+    let plain = value-passed _ _ _ c.read_plain_air.ensures c.in_ok-h.was in
+    record { plain = plain; few = omega (arith, (air-sound _ _ _ (plain-air _ _ _ plain)).few (λ k. omega (arith, c.type_inv.air k))) }

@@ -1,6 +1,6 @@
 -- `write::print` meets its contract. Assumes nothing.
+use Rattle.answer.proofs.Values.{value-passed, value-refused}
 use native.Mathlib.Omega.{arith}
-use Rattle.pack.proofs.Sound.{job-told, job-refused}
 use Rattle.write.proofs.Printed.{input-too-big-printed, refused-printed}
 use Rattle.write.proofs.print.Goals as goal
 
@@ -12,11 +12,11 @@ returns-then-job-gt-LIMIT c =
 pub print_pack-requires : goal.print_pack-requires
 print_pack-requires c =
     let p = c.requires in
-    (p.0, p.1, c.if-job-gt-LIMIT.false, (_, job-told _ _ c.read_job.ensures _ _ c.in-Job.is))
+    (p.0, p.1, c.if-job-gt-LIMIT.false, (_, value-passed _ _ _ c.read_job.ensures c.in-Ok.is))
 
-pub returns-in-Refused : goal.returns-in-Refused
-returns-in-Refused c =
+pub returns-in-Err : goal.returns-in-Err
+returns-in-Err c =
     let (counts, prints)
     = refused-printed _ _ _ _ c.requires.1 c.if-job-gt-LIMIT.false _ _ c.append_refused.ensures c.number.ensures
-    (job-refused _ _ c.read_job.ensures _ c.in-Refused.is) in
+    (value-refused _ _ _ c.read_job.ensures c.in-Err.is) in
     record { prefix_len = counts; prints = prints }

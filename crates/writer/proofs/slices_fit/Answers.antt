@@ -5,12 +5,12 @@ use Rattle.pack_writer.proofs.Outcomes.{written-given, written-refused}
 use Rattle.writer.proofs.slices_fit.Goals as goal
 
 pub returns-in_default : goal.returns-in_default
-returns-in_default c = absurd (written-refused _ c.requires _ c.written_bytes-asked.ensures _ c.in_default.is)
+returns-in_default c = absurd (written-refused _ c.requires _ c.written_bytes.ensures _ c.in_default.is)
 
 pub returns-then-bytes-sizes : goal.returns-then-bytes-sizes
 unfolding both
 returns-then-bytes-sizes c =
-    rw (eq-eqb _ _ c.if-bytes-sizes.true, written-given _ c.requires _ c.written_bytes-asked.ensures _ c.in-Bytes.is)
+    rw (eq-eqb _ _ c.if-bytes-sizes.true, written-given _ c.requires _ c.written_bytes.ensures _ c.in-Ok.is)
 
 pub returns-else-bytes-sizes : goal.returns-else-bytes-sizes
 unfolding both

@@ -1,4 +1,5 @@
 -- `writer::write_pack` meets its contract. Assumes nothing.
+use Rattle.answer.proofs.Values.{value-passed, value-refused}
 use mathlib.Core.Path.{◌≡◌, sym, ◌∙◌}
 use Prim.Native.Nat.{ℕ, ◌*◌}
 use native.Mathlib.Omega.{arith}
@@ -8,47 +9,50 @@ use Rattle.field.proofs.Primitive.{primitive}
 use Rattle.shape.specs.Shapes.{cells}
 use Rattle.pack.specs.Packs.{pack_size}
 use Rattle.pack.specs.Reading.{job_of}
-use Rattle.pack.proofs.Sound.{JobSound, sound-sent, job-told, job-refused, job-sound}
+use Rattle.pack.proofs.Sound.{JobSound, sound-sent, job-sound}
 use Rattle.pack_writer.proofs.Outcomes.{air-wrote}
 use Rattle.writer.proofs.Outcomes.{file-encoded, fits-parts, unread-job, unfit-slices, written-job}
+use Rattle.std.proofs.lemmas.Result.{err_from_is_err_and}
 use Rattle.writer.proofs.write_pack.Goals as goal
-use Rattle.writer.proofs.write_pack.Goals.{Else-not-slices_fit, In-Job}
+use Rattle.writer.proofs.write_pack.Goals.{Else-not-slices_fit, In_ok-h}
 
 -- ---- the job that was read, and the lengths of the slices
 
-read : (c : In-Job) → job_of c.args.job.now ≡ passes (c.in-Job.h, c.in-Job.file)
-read c = job-told _ _ c.read_job.ensures _ _ c.in-Job.is
+read : (c : In_ok-h) → job_of c.args.job.now ≡ passes (c.in_ok-h.h, c.in_ok-h.file)
+read c = value-passed _ _ _ c.read_job.ensures c.in_ok-h.was
 
-sound : (c : In-Job) → JobSound c.args.job.now c.in-Job.h c.in-Job.file
+sound : (c : In_ok-h) → JobSound c.args.job.now c.in_ok-h.h c.in_ok-h.file
 sound c = job-sound _ _ _ (read c)
 
 fits :
     (c : Else-not-slices_fit) →
-    JobSound c.args.job.now c.in-Job.h c.in-Job.file →
-    let h = c.in-Job.h in
+    JobSound c.args.job.now c.in_ok-h.h c.in_ok-h.file →
+    let h = c.in_ok-h.h in
     (length c.args.cube.now ≡ h.shape.w * cells h.shape) × (length c.args.output.now ≡ pack_size h)
 fits c s = fits-parts _ _ _ s _ _ (sym c.slices_fit.ensures ∙ c.if-not-slices_fit.false)
 
 -- ---- the needs
 
 pub slices_fit-requires : goal.slices_fit-requires
-slices_fit-requires c = sound-sent _ (sound (goal.at.slices_fit-requires c).In-Job).header
+slices_fit-requires c = sound-sent _ (sound (goal.at.slices_fit-requires c).In_ok-h).header
 
 pub returns-then-not-slices_fit : goal.returns-then-not-slices_fit
-returns-then-not-slices_fit c = unfit-slices _ _ _ _ _ _ (read (goal.at.returns-then-not-slices_fit c).In-Job) (sym c.slices_fit.ensures ∙ c.if-not-slices_fit.true)
+returns-then-not-slices_fit c = unfit-slices _ _ _ _ _ _ (read (goal.at.returns-then-not-slices_fit c).In_ok-h) (sym c.slices_fit.ensures ∙ c.if-not-slices_fit.true)
 
 pub lay_file-requires : goal.lay_file-requires
-lay_file-requires c = (sound (goal.at.lay_file-requires c).In-Job, (fits (goal.at.lay_file-requires c).Else-not-slices_fit (sound (goal.at.lay_file-requires c).In-Job)).0)
+lay_file-requires c = (sound (goal.at.lay_file-requires c).In_ok-h, (fits (goal.at.lay_file-requires c).Else-not-slices_fit (sound (goal.at.lay_file-requires c).In_ok-h)).0)
 
-pub returns-in-Refused : goal.returns-in-Refused
-returns-in-Refused c = unread-job _ _ _ _ _ (job-refused _ _ c.read_job.ensures _ c.in-Refused.is)
+pub returns-in_err-h : goal.returns-in_err-h
+returns-in_err-h c =
+    let (f, is, same) = err_from_is_err_and c.from_residual.result c.from_residual.ensures.1 in
+    rw (is, same) (unread-job _ _ _ _ _ (value-refused _ _ _ c.read_job.ensures c.in_err-h.was))
 
-pub returns-else-not-slices_fit : goal.returns-else-not-slices_fit
-returns-else-not-slices_fit c =
-    let cube = file-encoded _ _ _ (sound (goal.at.returns-else-not-slices_fit c).In-Job) _ _ _ primitive (c.lay_file.auto.cube ∙ (fits (goal.at.returns-else-not-slices_fit c).Else-not-slices_fit (sound (goal.at.returns-else-not-slices_fit c).In-Job)).0)
-    (λ (i : ℕ). omega (arith, c.slice_known-in-Job-1.given i)) c.lay_file.ensures c.complete.ensures in
-    written-job _ _ _ _ _ _ (read (goal.at.returns-else-not-slices_fit c).In-Job) _ _ (sym c.slices_fit.ensures ∙ c.if-not-slices_fit.false)
+pub returns : goal.returns
+returns c =
+    let cube = file-encoded _ _ _ (sound (goal.at.returns c).In_ok-h) _ _ _ primitive (c.lay_file.auto.cube ∙ (fits (goal.at.returns c).Else-not-slices_fit (sound (goal.at.returns c).In_ok-h)).0)
+    (λ (i : ℕ). omega (arith, c.slice_known-3-1.given i)) c.lay_file.ensures c.complete.ensures in
+    written-job _ _ _ _ _ _ (read (goal.at.returns c).In_ok-h) _ _ (sym c.slices_fit.ensures ∙ c.if-not-slices_fit.false)
     (record {
       cube = cube;
-      pack = air-wrote _ _ _ _ _ c.write_air.ensures (sound-sent _ (sound (goal.at.returns-else-not-slices_fit c).In-Job).header) cube.code.size (fits (goal.at.returns-else-not-slices_fit c).Else-not-slices_fit (sound (goal.at.returns-else-not-slices_fit c).In-Job)).1;
+      pack = air-wrote _ _ _ _ _ c.write_air.ensures (sound-sent _ (sound (goal.at.returns c).In_ok-h).header) cube.code.size (fits (goal.at.returns c).Else-not-slices_fit (sound (goal.at.returns c).In_ok-h)).1;
     })

@@ -16,12 +16,11 @@ returns-then-not-planes_right c =
 
 pub overflow_mul-sh : goal.overflow_mul-sh
 overflow_mul-sh c =
-    omega (arith, (axis3-blocks c.args.sh).within, lines-small _ 3 c.requires.0)
+    omega (arith, (axis3-blocks c.args.sh).within, lines-small _ 3 c.requires.valid)
 
 pub lines_right-requires : goal.lines_right-requires
 lines_right-requires c =
-    let pre = c.requires in
-    (pre.0, pre.1, omega arith, omega arith, axis3-blocks _)
+    (c.requires, omega arith, omega arith, axis3-blocks _)
 
 pub returns : goal.returns
 unfolding lines_of
@@ -31,5 +30,5 @@ returns c =
       yes_when = λ h. c.lines_right.ensures.yes_when (code-axis _ _ 3 _ h);
       yes_then = λ e.
           let planes = c.planes_right.ensures.yes_then c.if-not-planes_right.false in
-          axes-code _ _ _ pre.0 pre.1 (λ p. omega (arith, c.shared_slice_known-1.given p)) planes.0 planes.1 (c.lines_right.ensures.yes_then e);
+          axes-code _ _ _ pre.valid pre.size (λ p. omega (arith, c.shared_slice_known-1.given p)) planes.0 planes.1 (c.lines_right.ensures.yes_then e);
     }

@@ -20,19 +20,20 @@ columns : (c : In-loop-c) → let sh = c.args.sh in
 columns c = columns-blocks _ _ c.loop-c-test.true
 
 pub loop-c-init : goal.loop-c-init
-loop-c-init c = (omega arith, rw (zero-mul _) (right-none _ _ _ _ 0), rw (zero-mul _) (right-none _ _ _ _ 0))
+loop-c-init c =
+    record { rows = rw (zero-mul _) (right-none _ _ _ _ 0); columns = rw (zero-mul _) (right-none _ _ _ _ 0) }
 
 pub overflow_mul-row : goal.overflow_mul-row
-overflow_mul-row c = omega (arith, (rows (goal.at.overflow_mul-row c).In-loop-c).within, lines-small _ 1 c.requires.0)
+overflow_mul-row c = omega (arith, (rows (goal.at.overflow_mul-row c).In-loop-c).within, lines-small _ 1 c.requires.valid)
 
 pub overflow_mul-column : goal.overflow_mul-column
-overflow_mul-column c = omega (arith, (columns (goal.at.overflow_mul-column c).In-loop-c).within, lines-small _ 2 c.requires.0)
+overflow_mul-column c = omega (arith, (columns (goal.at.overflow_mul-column c).In-loop-c).within, lines-small _ 2 c.requires.valid)
 
 pub overflow_add-column : goal.overflow_add-column
-overflow_add-column c = omega (arith, (columns (goal.at.overflow_add-column c).In-loop-c).within, lines-small _ 2 c.requires.0)
+overflow_add-column c = omega (arith, (columns (goal.at.overflow_add-column c).In-loop-c).within, lines-small _ 2 c.requires.valid)
 
 pub lines_right-requires : goal.lines_right-requires
-lines_right-requires c = (c.requires.0, c.requires.1, omega arith, omega arith, columns (goal.at.lines_right-requires c).In-loop-c)
+lines_right-requires c = (c.requires, omega arith, omega arith, columns (goal.at.lines_right-requires c).In-loop-c)
 
 pub returns-then-not-lines_right : goal.returns-then-not-lines_right
 returns-then-not-lines_right c =
@@ -45,11 +46,11 @@ returns-then-not-lines_right c =
 
 pub overflow_add-row : goal.overflow_add-row
 overflow_add-row c =
-    omega (arith, (rows (goal.at.overflow_add-row c).In-loop-c).within, lines-small _ 1 c.requires.0)
+    omega (arith, (rows (goal.at.overflow_add-row c).In-loop-c).within, lines-small _ 1 c.requires.valid)
 
 pub lines_right-requires-in-loop-c : goal.lines_right-requires-in-loop-c
 lines_right-requires-in-loop-c c =
-    (c.requires.0, c.requires.1, omega arith, omega arith, rows (goal.at.lines_right-requires-in-loop-c c).In-loop-c)
+    (c.requires, omega arith, omega arith, rows (goal.at.lines_right-requires-in-loop-c c).In-loop-c)
 
 pub returns-then-not-lines_right-2 : goal.returns-then-not-lines_right-2
 returns-then-not-lines_right-2 c =
@@ -63,13 +64,15 @@ returns-then-not-lines_right-2 c =
 pub loop-c-preserved : goal.loop-c-preserved
 loop-c-preserved c =
     let sh = c.args.sh in
-    let inv = c.loop-c.invariant in (
-      omega arith,
-      right-fewer _ _ _ _ _ _ _ _ (omega arith) (omega (arith, suc-mul c.loop-c.c sh.l2))
-          (right-append _ _ _ _ _ _ _ inv.1 (c.lines_right-in-loop-c.ensures.yes_then c.if-not-lines_right-2.false)),
-      right-fewer _ _ _ _ _ _ _ _ (omega arith) (omega (arith, suc-mul c.loop-c.c sh.l1))
-          (right-append _ _ _ _ _ _ _ inv.2 (c.lines_right.ensures.yes_then c.if-not-lines_right.false)),
-    )
+    let inv = c.loop-c.invariant in
+    record {
+      rows =
+          right-fewer _ _ _ _ _ _ _ _ (omega arith) (omega (arith, suc-mul c.loop-c.c sh.l2))
+          (right-append _ _ _ _ _ _ _ inv.rows (c.lines_right-in-loop-c.ensures.yes_then c.if-not-lines_right-2.false));
+      columns =
+          right-fewer _ _ _ _ _ _ _ _ (omega arith) (omega (arith, suc-mul c.loop-c.c sh.l1))
+          (right-append _ _ _ _ _ _ _ inv.columns (c.lines_right.ensures.yes_then c.if-not-lines_right.false));
+    }
 
 pub returns : goal.returns
 unfolding lines_of
@@ -80,7 +83,7 @@ returns c =
     record {
       yes_when = λ h. refl;
       yes_then = λ e. (
-        right-fewer _ _ _ _ _ _ _ _ (omega arith) (omega (arith, mul_comm sh.l2 sh.l3)) inv.1,
-        right-fewer _ _ _ _ _ _ _ _ (omega arith) (omega (arith, mul_comm sh.l1 sh.l3)) inv.2,
+        right-fewer _ _ _ _ _ _ _ _ (omega arith) (omega (arith, mul_comm sh.l2 sh.l3)) inv.rows,
+        right-fewer _ _ _ _ _ _ _ _ (omega arith) (omega (arith, mul_comm sh.l1 sh.l3)) inv.columns,
       );
     }

@@ -1,5 +1,5 @@
 -- `complete_across` goes row by row: the lines of axis 3 through those below b are codewords, and every row of a data plane keeps its data cells.
-use mathlib.Core.Path.{◌≡◌, refl}
+use mathlib.Core.Path.{◌≡◌}
 use Prim.Native.Nat.{◌*◌, ◌-◌, ◌≤◌}
 use native.Mathlib.Omega.{arith}
 use lib.ListN.{length}
@@ -14,7 +14,7 @@ use Rattle.cube.proofs.encoder.complete_across.Goals as goal
 use Rattle.cube.proofs.encoder.complete_across.Goals.{In-loop-b, Start}
 
 sizes : (s : Start) → Small s.args.sh
-sizes s = small s.args.sh s.requires.0
+sizes s = small s.args.sh s.requires.0.valid
 
 -- the row begins inside its plane
 begins : (c : In-loop-b) →
@@ -33,7 +33,7 @@ pub erasures_at-e-requires : goal.erasures_at-e-requires
 erasures_at-e-requires c = tt
 
 pub loop-b-init : goal.loop-b-init
-loop-b-init c = (omega arith, refl, across-completed-none _ _ _)
+loop-b-init c = across-completed-none _ _ _
 
 pub overflow_mul-run : goal.overflow_mul-run
 overflow_mul-run c = omega (arith, begins (goal.at.overflow_mul-run c).In-loop-b, sizes (goal.at.overflow_mul-run c).Start)
@@ -50,17 +50,14 @@ pub loop-b-preserved : goal.loop-b-preserved
 unfolding rows_to across_run
 loop-b-preserved c =
     let sh = c.args.sh in
-    let v = c.requires.0 in
+    let v = c.requires.0.valid in
     let less = c.loop-b-test.true in
     let size : length c.loop-b.cube ≡ sh.w * cells sh = omega arith in
-    let inside = rw (← size) at (rows-to-inside sh c.loop-b.b v less) in (
-      omega arith,
-      omega arith,
-      across-completed-more _ sh c.loop-b.b _ _ _ c.requires.2 less (omega arith) c.loop-b.invariant.2 inside
-          (outcome-solved _ _ (sh.l3 - 2) (sh.l3 - 1) _ _ _ (rw c.erasures_at-e.ensures at c.solve.ensures) inside (omega arith) (omega arith)),
-    )
+    let inside = rw (← size) at (rows-to-inside sh c.loop-b.b v less) in
+    across-completed-more _ sh c.loop-b.b _ _ _ c.requires.1 less (omega arith) c.loop-b.invariant inside
+    (outcome-solved _ _ (sh.l3 - 2) (sh.l3 - 1) _ _ _ (rw c.erasures_at-e.ensures at c.solve.ensures) inside (omega arith) (omega arith))
 
 pub returns : goal.returns
 returns c =
     let all : c.loop-b.b ≡ c.args.sh.l2 - 2 = omega arith in
-    rw all at c.loop-b.invariant.2
+    rw all at c.loop-b.invariant

@@ -15,13 +15,13 @@ pub returns : goal.returns
 unfolding OneCodeCube
 returns c =
     let sh = c.args.sh in
-    let v = c.requires.0 in
+    let v = c.requires.0.valid in
     let ds = held_data sh c.args.cube.now in
     let rows = across-encoded _ sh _ _ c.complete_across.ensures in
     let size : length c.encode_planes.new.cube ≡ sh.w * cells sh =
     omega (arith, c.complete_across.auto.cube, c.encode_planes.auto.cube) in
     let bytes : (p : ℕ) → get_or c.encode_planes.new.cube p 0 < 256 = λ p. omega (arith, c.slice_known-3-1.given p) in
-    let code = code-cube _ c.requires.2 sh v _ _ _ bytes rows c.encode_planes.ensures size in
-    let held = data-held _ c.requires.2 sh v _ _ _ bytes rows c.encode_planes.ensures (length-held_data sh _) in
+    let code = code-cube _ c.requires.1 sh v _ _ _ bytes rows c.encode_planes.ensures size in
+    let held = data-held _ c.requires.1 sh v _ _ _ bytes rows c.encode_planes.ensures (length-held_data sh _) in
     let source : (p : ℕ) → get_or ds p 0 < 256 = held_data-lt sh _ (λ p. omega (arith, c.slice_known-1.given p)) in
-    (one-code-cube c.args.reduction c.requires.2 sh v ds (length-held_data sh _) source).only _ code held
+    (one-code-cube c.args.reduction c.requires.1 sh v ds (length-held_data sh _) source).only _ code held

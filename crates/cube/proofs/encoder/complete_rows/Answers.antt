@@ -1,5 +1,5 @@
 -- `complete_rows` goes row by row: those below b are codewords, and every row keeps its data cells.
-use mathlib.Core.Path.{◌≡◌, refl}
+use mathlib.Core.Path.{◌≡◌}
 use Prim.Native.Nat.{◌+◌, ◌*◌, ◌-◌, ◌≤◌}
 use native.Mathlib.Omega.{arith}
 use lib.ListN.{length}
@@ -28,7 +28,7 @@ pub erasures_at-e-requires : goal.erasures_at-e-requires
 erasures_at-e-requires c = tt
 
 pub loop-b-init : goal.loop-b-init
-loop-b-init c = (omega arith, refl, rows-completed-none _ _ _ _)
+loop-b-init c = rows-completed-none _ _ _ _
 
 pub overflow_mul-run : goal.overflow_mul-run
 overflow_mul-run c = omega (arith, inside (goal.at.overflow_mul-run c).In-loop-b)
@@ -41,14 +41,11 @@ unfolding row_run
 loop-b-preserved c =
     let sh = c.args.sh in
     let v = c.requires.0 in
-    let row = row_inside sh.l1 sh.w c.loop-b.b (length c.loop-b.plane) (omega arith) v.l1_high (inside (goal.at.loop-b-preserved c).In-loop-b) in (
-      omega arith,
-      omega arith,
-      rows-completed-more _ sh.l1 sh.w c.loop-b.b _ _ _ c.requires.2 (omega arith) c.loop-b.invariant.2 row
-          (outcome-solved _ _ (sh.l1 - 2) (sh.l1 - 1) _ _ _ (rw c.erasures_at-e.ensures at c.solve.ensures) row (omega arith) (omega arith)),
-    )
+    let row = row_inside sh.l1 sh.w c.loop-b.b (length c.loop-b.plane) (omega arith) v.l1_high (inside (goal.at.loop-b-preserved c).In-loop-b) in
+    rows-completed-more _ sh.l1 sh.w c.loop-b.b _ _ _ c.requires.2 (omega arith) c.loop-b.invariant row
+    (outcome-solved _ _ (sh.l1 - 2) (sh.l1 - 1) _ _ _ (rw c.erasures_at-e.ensures at c.solve.ensures) row (omega arith) (omega arith))
 
 pub returns : goal.returns
 returns c =
     let all : c.loop-b.b ≡ c.args.sh.l2 = omega arith in
-    rw all at c.loop-b.invariant.2
+    rw all at c.loop-b.invariant

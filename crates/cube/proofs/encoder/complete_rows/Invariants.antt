@@ -1,13 +1,6 @@
 -- `complete_rows` goes row by row: those below b are codewords, and every row keeps its data cells.
-use mathlib.Core.Path.{◌≡◌}
-use Prim.Native.Nat.{◌-◌, ◌≤◌}
-use lib.ListN.{length}
 use Rattle.cube.specs.Inner.Encoder.{RowsCompleted}
 use Rattle.cube.proofs.encoder.complete_rows.Given as goal
 
 abbrev pub invariant-loop-b : goal.invariant-loop-b
-invariant-loop-b l =
-    (l.b ≤ l.rows) × (length l.plane ≡ length l.initial.plane) × RowsCompleted l.reduction l.l1 l.w l.b l.initial.plane l.plane
-
-abbrev pub decreases-loop-b : goal.decreases-loop-b
-decreases-loop-b l = l.rows - l.b
+invariant-loop-b l = RowsCompleted l.reduction l.l1 l.w l.b l.initial.plane l.plane

@@ -24,6 +24,6 @@ returns c =
     let v = c.requires.0 in
     let inside = columns-inside sh.l1 sh.l2 sh.w (length c.args.plane.now) (omega arith) v.l2_high (omega arith) in
     plane-code _ c.requires.2 sh v _ _ _ (λ p. omega (arith, c.slice_known-3-1.given p)) inside
-    (outcome-solved _ _ (sh.l2 - 2) (sh.l2 - 1) _ _ _ (rw c.erasures_at.ensures at c.solve.ensures) inside (omega arith)
+    (outcome-solved _ _ (sh.l2 - 2) (sh.l2 - 1) _ _ _ (rw c.erasures_at-e.ensures at c.solve.ensures) inside (omega arith)
     (omega arith))
     c.complete_rows.ensures

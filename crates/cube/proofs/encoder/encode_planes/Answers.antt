@@ -1,5 +1,5 @@
 -- `encode_planes` goes plane by plane: those below c are coded, and the others are as before.
-use mathlib.Core.Path.{◌≡◌, refl, ◌∙◌}
+use mathlib.Core.Path.{◌≡◌, ◌∙◌}
 use Prim.Native.Nat.{◌+◌, ◌*◌, ◌≤◌}
 use native.Mathlib.Omega.{arith}
 use lib.ListN.{length}
@@ -12,7 +12,7 @@ use Rattle.cube.proofs.encoder.encode_planes.Goals as goal
 use Rattle.cube.proofs.encoder.encode_planes.Goals.{In-loop-c, Start}
 
 sizes : (s : Start) → Small s.args.sh
-sizes s = small s.args.sh s.requires.0
+sizes s = small s.args.sh s.requires.0.valid
 
 -- the plane lies inside
 inside : (c : In-loop-c) →
@@ -26,7 +26,7 @@ pub overflow_mul-plane-2 : goal.overflow_mul-plane-2
 overflow_mul-plane-2 c = omega (arith, sizes (goal.at.overflow_mul-plane-2 c).Start)
 
 pub loop-c-init : goal.loop-c-init
-loop-c-init c = (omega arith, refl, planes-coded-none _ _ _)
+loop-c-init c = planes-coded-none _ _ _
 
 pub overflow_mul-at : goal.overflow_mul-at
 overflow_mul-at c = omega (arith, inside (goal.at.overflow_mul-at c).In-loop-c)
@@ -38,18 +38,15 @@ pub slice_bounds-encode_plane-end : goal.slice_bounds-encode_plane-end
 slice_bounds-encode_plane-end c = omega (arith, inside (goal.at.slice_bounds-encode_plane-end c).In-loop-c)
 
 pub encode_plane-requires : goal.encode_plane-requires
-encode_plane-requires c = (c.requires.0, lent_length _ _ _ (inside (goal.at.encode_plane-requires c).In-loop-c), c.requires.2)
+encode_plane-requires c = (c.requires.0.valid, lent_length _ _ _ (inside (goal.at.encode_plane-requires c).In-loop-c), c.requires.1)
 
 pub loop-c-preserved : goal.loop-c-preserved
 loop-c-preserved c =
-    let back = c.cube-1.given in (
-      omega arith,
-      back.1 ∙ c.loop-c.invariant.1,
-      planes-coded-more _ _ _ _ _ c.encode_plane.new.plane (inside (goal.at.loop-c-preserved c).In-loop-c) (back.0 ∙ lent_length _ _ _ (inside (goal.at.loop-c-preserved c).In-loop-c)) c.loop-c.invariant.2
-          c.encode_plane.ensures,
-    )
+    let back = c.cube-1.given in
+    let room = inside (goal.at.loop-c-preserved c).In-loop-c in
+    planes-coded-more _ _ _ _ _ c.encode_plane.new.plane room (back.0 ∙ lent_length _ _ _ room) c.loop-c.invariant c.encode_plane.ensures
 
 pub returns : goal.returns
 returns c =
     let all : c.loop-c.c ≡ c.args.sh.l3 = omega arith in
-    rw all at c.loop-c.invariant.2
+    rw all at c.loop-c.invariant

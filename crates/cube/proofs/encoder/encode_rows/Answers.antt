@@ -1,5 +1,5 @@
 -- `encode_rows` goes row by row: those below b are encoded through all planes, and no other row is written.
-use mathlib.Core.Path.{◌≡◌, refl}
+use mathlib.Core.Path.{◌≡◌}
 use Prim.Native.Nat.{◌*◌, ◌-◌, ◌≤◌}
 use native.Mathlib.Omega.{arith}
 use lib.ListN.{length}
@@ -14,7 +14,7 @@ use Rattle.cube.proofs.encoder.encode_rows.Goals as goal
 use Rattle.cube.proofs.encoder.encode_rows.Goals.{In-loop-b, Start}
 
 sizes : (s : Start) → Small s.args.sh
-sizes s = small s.args.sh s.requires.0
+sizes s = small s.args.sh s.requires.0.valid
 
 -- the row begins inside its plane, and its data inside the plane's data
 begins : (c : In-loop-b) →
@@ -33,7 +33,7 @@ pub overflow_mul-width : goal.overflow_mul-width
 overflow_mul-width c = omega (arith, sizes (goal.at.overflow_mul-width c).Start)
 
 pub loop-b-init : goal.loop-b-init
-loop-b-init c = (omega arith, refl, rows-encoded-none _ _ _ _)
+loop-b-init c = rows-encoded-none _ _ _ _
 
 pub overflow_mul-from : goal.overflow_mul-from
 overflow_mul-from c = omega (arith, begins (goal.at.overflow_mul-from c).In-loop-b, sizes (goal.at.overflow_mul-from c).Start)
@@ -58,18 +58,15 @@ pub loop-b-preserved : goal.loop-b-preserved
 unfolding rows_from rows_to across_run
 loop-b-preserved c =
     let sh = c.args.sh in
-    let v = c.requires.0 in
+    let v = c.requires.0.valid in
     let less = c.loop-b-test.true in
     let size : length c.loop-b.cube ≡ sh.w * cells sh = omega arith in
     let outcome = c.encode.ensures in
     let fed = rw (← c.requires.1) at (rows-fed sh c.loop-b.b v less) in
-    let inside = rw (← size) at (rows-to-inside sh c.loop-b.b v less) in (
-      omega arith,
-      omega arith,
-      rows-encoded-more _ sh c.loop-b.b _ _ _ less c.requires.3 inside.few_places fed (outcome.done (inside, fed)).1 c.loop-b.invariant.2,
-    )
+    let inside = rw (← size) at (rows-to-inside sh c.loop-b.b v less) in
+    rows-encoded-more _ sh c.loop-b.b _ _ _ less c.requires.2 inside.few_places fed (outcome.done (inside, fed)).1 c.loop-b.invariant
 
 pub returns : goal.returns
 returns c =
     let all : c.loop-b.b ≡ c.args.sh.l2 - 2 = omega arith in
-    rw all at c.loop-b.invariant.2
+    rw all at c.loop-b.invariant

@@ -6,8 +6,5 @@ use Rattle.cursor.proofs.Cursor.bytes.Goals as goal
 pub returns-then-len-n : goal.returns-then-len-n
 returns-then-len-n c = cut-bytes _ _ _ (omega arith)
 
-pub returns-then-len-n-2 : goal.returns-then-len-n-2
-returns-then-len-n-2 c = cut-bytes _ _ _ (omega arith)
-
 pub returns : goal.returns
 returns c = whole-bytes _ _ _ (omega arith)

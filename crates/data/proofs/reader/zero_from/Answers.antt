@@ -1,64 +1,62 @@
--- `data::reader::zero_from` goes stretch by stretch: the bytes from `from` on before q are 00h, and byte q begins a stretch. Assumes nothing.
+-- `data::reader::zero_from` goes piece by piece: the bytes before the next piece are 00h.
 use mathlib.Core.Path.{refl, sym, ◌∙◌}
-use mathlib.Core.Bool.{false≢true}
-use Prim.Native.Nat.{◌+◌, ◌*◌, ◌≤◌, ◌<◌}
 use native.Mathlib.Omega.{arith}
-use Rattle.shape.specs.Shapes.{cells, capacity}
-use Rattle.data.proofs.Placing.{standing-end, standing-inside}
+use mathlib.Core.Bool.{false≢true}
+use Rattle.data.proofs.Placing.{lies-ahead}
 use Rattle.data.proofs.Reading.{zero_more, zero-stretch}
 use Rattle.data.proofs.reader.zero_from.Goals as goal
-use Rattle.data.proofs.reader.zero_from.Goals.{In-loop-q}
 
--- byte q is one of the data string
-below : (c : In-loop-q) → c.loop-q.q < capacity c.args.sh
-below c = omega (arith, c.requires.2)
+pub over-s-items-requires : goal.over-s-items-requires
+over-s-items-requires c = (c.requires.0.valid, omega (arith, c.requires.1))
 
--- and its stretch lies inside
-ends : (c : In-loop-q) → c.loop-q.q + c.loop-q.s.len ≤ c.args.end
-ends c = omega (arith, c.requires.2, standing-end _ _ _ c.requires.0 c.loop-q.invariant.2 (below c))
-
-inside : (c : In-loop-q) → c.loop-q.s.at + c.loop-q.s.len ≤ c.args.sh.w * cells c.args.sh
-inside c = standing-inside _ _ _ c.requires.0 c.loop-q.invariant.2 (below c)
-
-pub stretch_at-s-requires : goal.stretch_at-s-requires
-stretch_at-s-requires c = (c.requires.0, omega (arith, c.smaller-q.ensures.1, c.requires.2))
-
-pub loop-q-init : goal.loop-q-init
-loop-q-init c =
-    let smaller = c.smaller-q.ensures in
-    (smaller.1, λ l. omega (arith, smaller.2 l), c.stretch_at-s.ensures, λ p low less. absurd (omega (arith, smaller.0)))
+pub loop-s-init : goal.loop-s-init
+loop-s-init c =
+    let o = c.over-s-items.ensures in
+    rw c.into_iter-s-iterator.ensures.into_iter_gives
+    (record {
+      can = λ l. o.3;
+      finite = tt;
+      shape = o.0;
+      low = λ l. omega arith;
+      ends = o.2;
+      zeros = λ p low less. absurd (omega arith);
+    })
 
 pub returns-then-not-zeros : goal.returns-then-not-zeros
 returns-then-not-zeros c =
+    let inv = c.loop-s.invariant in
+    let step = c.in-Some.ensures.steps in
+    let ahead = lies-ahead _ _ _ _ c.requires.0.valid inv.shape (inv.can step.less) (omega (arith, step.less, inv.ends, c.requires.1)) in
+    let low = inv.low (omega (arith, step.less, inv.ends)) in
     record {
       yes_when = λ h.
           sym c.if-not-zeros.true
           ∙ c.zeros.ensures.yes_when
-          (zero-stretch _ _ c.requires.0 _ _ c.requires.1 c.loop-q.invariant.2 (below (goal.at.returns-then-not-zeros c).In-loop-q)
-          (λ p low. h p (omega (arith, c.loop-q.invariant.1 c.loop-q-test.true))));
+          (rw step.place (zero-stretch _ _ c.requires.0.valid _ _ _ c.requires.0.size ahead.standing step.part ahead.below (λ p more. h p (omega arith))));
       yes_then = λ e. absurd (false≢true e);
     }
 
-pub overflow_add-q : goal.overflow_add-q
-overflow_add-q c = omega (arith, ends (goal.at.overflow_add-q c).In-loop-q)
-
-pub next_row-s-requires : goal.next_row-s-requires
-next_row-s-requires c =
-    (c.requires.0, omega (arith, inside (goal.at.next_row-s-requires c).In-loop-q, c.requires.0.volume), c.loop-q.invariant.2.second)
-
-pub loop-q-smaller : goal.loop-q-smaller
-loop-q-smaller c = omega (arith, ends (goal.at.loop-q-smaller c).In-loop-q, c.loop-q.invariant.2.some)
-
-pub loop-q-preserved : goal.loop-q-preserved
-loop-q-preserved c =
-    let inv = c.loop-q.invariant in (
-      ends (goal.at.loop-q-preserved c).In-loop-q,
-      λ less. omega (arith, inv.1 c.loop-q-test.true),
-      c.next_row-s.ensures _ inv.2,
-      zero_more _ _ c.requires.0 _ _ _ inv.2 (c.zeros.ensures.yes_then c.if-not-zeros.false) inv.3,
-    )
+pub loop-s-preserved : goal.loop-s-preserved
+loop-s-preserved c =
+    let inv = c.loop-s.invariant in
+    let step = c.in-Some.ensures.steps in
+    let ahead = lies-ahead _ _ _ _ c.requires.0.valid inv.shape (inv.can step.less) (omega (arith, step.less, inv.ends, c.requires.1)) in
+    let low = inv.low (omega (arith, step.less, inv.ends)) in
+    record {
+      can = c.in-Some.ensures.goes.keeps;
+      finite = tt;
+      shape = step.shape ∙ inv.shape;
+      low = λ l. omega (arith, step.next);
+      ends = step.end ∙ inv.ends;
+      zeros =
+          rw step.next
+          (zero_more _ _ c.requires.0.valid _ _ _ _ ahead.standing step.part (rw step.place at (c.zeros.ensures.yes_then c.if-not-zeros.false)) inv.zeros);
+    }
 
 pub returns : goal.returns
 returns c =
-    let inv = c.loop-q.invariant in
-    record { yes_when = λ h. refl; yes_then = λ e p low less. inv.3 p low (omega (arith, c.requires.2)) }
+    let inv = c.loop-s.invariant in
+    record {
+      yes_when = λ h. refl;
+      yes_then = λ e p low less. inv.zeros p low (omega (arith, c.in-None.ensures.steps, inv.ends, c.requires.1));
+    }

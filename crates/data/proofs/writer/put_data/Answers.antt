@@ -1,60 +1,70 @@
--- `data::writer::put_data` goes stretch by stretch: the bytes before `done` are copied, and the next one begins a stretch. Assumes nothing.
-use mathlib.Core.Path.{◌≡◌}
-use Prim.Native.Nat.{◌+◌, ◌≤◌, ◌<◌}
+-- `data::writer::put_data` goes piece by piece: the bytes before the next piece are copied.
+use mathlib.Core.Path.{◌≡◌, sym, ◌∙◌}
+use Prim.Native.Nat.{◌+◌, ◌-◌, ◌≤◌}
 use native.Mathlib.Omega.{arith}
-use lib.ListN.{length}
 use Rattle.span.proofs.Copying.{copied_none}
 use Rattle.shape.specs.Shapes.{capacity}
-use Rattle.data.specs.Inner.Place.{Standing}
-use Rattle.data.proofs.Placing.{standing-same, standing-inside, smaller-pos}
+use Rattle.shape.proofs.Valid.{volume-le, data-length-le, bytes_le}
+use Rattle.data.proofs.Placing.{standing-same, lies-ahead}
 use Rattle.data.proofs.Writing.{parity-kept-none, parity-kept-trans, stretch-parity, write-more}
 use Rattle.data.proofs.writer.put_data.Goals as goal
-use Rattle.data.proofs.writer.put_data.Goals.{In-loop-done}
 
--- the next byte is one of the data string, and begins a stretch, which lies inside the cube
-below : (c : In-loop-done) → c.args.to + c.loop-done.done < capacity c.args.sh
-below c = omega (arith, c.requires.2)
-
-standing : (c : In-loop-done) → Standing c.args.sh (c.args.to + c.loop-done.done) c.loop-done.s
-standing c = c.loop-done.invariant.3 c.loop-done-test.true
-
-inside : (c : In-loop-done) → c.loop-done.s.at + c.loop-done.s.len ≤ length c.loop-done.cube
-inside c = omega (arith, standing-inside _ _ _ c.requires.0 (standing c) (below c), c.requires.1, c.loop-done.invariant.2.size)
-
-pub stretch_at-s-requires : goal.stretch_at-s-requires
-stretch_at-s-requires c = (c.requires.0, omega (arith, c.requires.2))
-
-pub loop-done-init : goal.loop-done-init
-loop-done-init c = (omega arith, copied_none _ _ _ _, parity-kept-none _ _, λ l. standing-same _ _ _ _ (omega arith) c.stretch_at-s.ensures)
-
-pub overflow_add-from : goal.overflow_add-from
-overflow_add-from c = omega (arith, c.requires.3)
-
-pub overflow_add-done : goal.overflow_add-done
-overflow_add-done c = omega (arith, c.smaller-k.ensures.1)
-
-pub next_row-s-requires : goal.next_row-s-requires
-next_row-s-requires c =
-    (c.requires.0, omega (arith, inside (goal.at.next_row-s-requires c).In-loop-done, c.requires.1, c.loop-done.invariant.2.size, c.requires.0.volume), (standing (goal.at.next_row-s-requires c).In-loop-done).second)
-
-pub loop-done-smaller : goal.loop-done-smaller
-loop-done-smaller c =
-    let smaller = c.smaller-k.ensures in
-    omega (arith, smaller.1, smaller-pos _ _ _ smaller.2 (standing (goal.at.loop-done-smaller c).In-loop-done).some (omega arith))
-
-pub loop-done-preserved : goal.loop-done-preserved
-loop-done-preserved c =
-    let v = c.requires.0 in
-    let inv = c.loop-done.invariant in
-    let smaller = c.smaller-k.ensures in
-    let copied = (c.copy.ensures.done (omega (arith, smaller.1, c.requires.3), omega (arith, inside (goal.at.loop-done-preserved c).In-loop-done, smaller.0))).1 in (
-      omega (arith, smaller.1),
-      write-more _ v _ _ _ _ _ _ _ _ _ (standing (goal.at.loop-done-preserved c).In-loop-done) smaller.0 (omega (arith, c.requires.2, smaller.1)) inv.1 copied,
-      parity-kept-trans inv.2 (stretch-parity _ v _ _ _ _ _ (standing (goal.at.loop-done-preserved c).In-loop-done) smaller.0 copied.kept (below (goal.at.loop-done-preserved c).In-loop-done)),
-      λ less. let all = smaller.2 (omega arith) in standing-same _ _ _ _ (omega arith) (c.next_row-s.ensures _ (standing (goal.at.loop-done-preserved c).In-loop-done)),
+pub overflow_add-to : goal.overflow_add-to
+unfolding capacity
+overflow_add-to c =
+    let v = c.requires.0.valid in
+    omega (
+      arith,
+      c.requires.1,
+      bytes_le _ _ v.w_high (volume-le _ _ _ (data-length-le _ v.l1_high) (data-length-le _ v.l2_high) (data-length-le _ v.l3_high)),
     )
+
+pub over-s-items-requires : goal.over-s-items-requires
+over-s-items-requires c = (c.requires.0.valid, omega (arith, c.requires.1))
+
+pub loop-s-init : goal.loop-s-init
+loop-s-init c =
+    let o = c.over-s-items.ensures in
+    let none : c.over-s-items.result.q - c.args.to ≡ 0 = omega arith in
+    rw c.into_iter-s-iterator.ensures.into_iter_gives
+    (record {
+      can = λ l. o.3;
+      finite = tt;
+      shape = o.0;
+      low = omega arith;
+      ends = o.2;
+      copied = rw none (copied_none _ _ _ _);
+      kept = parity-kept-none _ _;
+    })
+
+pub loop-s-preserved : goal.loop-s-preserved
+loop-s-preserved c =
+    let v = c.requires.0.valid in
+    let inv = c.loop-s.invariant in
+    let step = c.in-Some.ensures.steps in
+    let ahead = lies-ahead _ _ _ _ c.requires.0.valid inv.shape (inv.can step.less) (omega (arith, step.less, inv.ends, c.requires.1)) in
+    let low = inv.low in
+    let ends = inv.ends in
+    let here : c.args.to + (c.loop-s.s-iterator.q - c.args.to) ≡ c.loop-s.s-iterator.q = omega arith in
+    let next : c.next.new.self.q - c.args.to ≡ c.loop-s.s-iterator.q - c.args.to + c.in-Some.s.len = omega (arith, step.next) in
+    let room : c.next.new.self.q ≤ c.args.to + c.args.n = omega (arith, c.next.new.self.begun, step.end) in
+    let copied = rw (step.place, step.byte) at (c.copy.ensures.done (omega (arith, step.byte, step.next, c.requires.2), omega (arith, ahead.inside, step.place, step.part, inv.kept.size, c.requires.0.size))).1 in
+    record {
+      can = c.in-Some.ensures.goes.keeps;
+      finite = tt;
+      shape = step.shape ∙ inv.shape;
+      low = omega (arith, step.next);
+      ends = step.end ∙ inv.ends;
+      copied =
+          rw next
+          (write-more _ v _ _ _ _ _ _ _ _ _ (standing-same _ _ _ _ (sym here) ahead.standing) step.part (omega (arith, step.next, c.requires.1)) inv.copied copied);
+      kept = parity-kept-trans inv.kept (stretch-parity _ v _ _ _ _ _ ahead.standing step.part copied.kept ahead.below);
+    }
 
 pub returns : goal.returns
 returns c =
-    let all : c.loop-done.done ≡ c.args.n = omega arith in
-    (rw all at c.loop-done.invariant.1, c.loop-done.invariant.2)
+    let inv = c.loop-s.invariant in
+    let low = inv.low in
+    let ends = inv.ends in
+    let all : c.loop-s.s-iterator.q - c.args.to ≡ c.args.n = omega (arith, c.in-None.ensures.steps, c.loop-s.s-iterator.begun) in
+    (rw all at inv.copied, inv.kept)

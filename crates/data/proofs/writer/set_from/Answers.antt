@@ -1,63 +1,52 @@
--- `data::writer::set_from` goes stretch by stretch: the bytes from `from` on before q are set, and byte q begins a stretch. Assumes nothing.
-use mathlib.Core.Path.{◌≡◌}
-use Prim.Native.Nat.{◌+◌, ◌*◌, ◌-◌, ◌≤◌, ◌<◌}
+-- `data::writer::set_from` goes piece by piece: the bytes before the next piece are set.
+use mathlib.Core.Path.{◌≡◌, ◌∙◌}
+use Prim.Native.Nat.{◌-◌, ◌≤◌}
 use native.Mathlib.Omega.{arith}
 use Rattle.span.proofs.Setting.{set-none}
-use Rattle.shape.specs.Shapes.{cells, capacity}
-use Rattle.data.proofs.Placing.{standing-end, standing-inside}
+use Rattle.shape.specs.Shapes.{capacity}
+use Rattle.data.proofs.Placing.{lies-ahead}
 use Rattle.data.proofs.Writing.{parity-kept-none, parity-kept-trans, stretch-parity, set_more}
 use Rattle.data.proofs.writer.set_from.Goals as goal
-use Rattle.data.proofs.writer.set_from.Goals.{In-loop-q}
 
--- byte q is one of the data string
-below : (c : In-loop-q) → c.loop-q.q < capacity c.args.sh
-below c = omega (arith, c.requires.2)
+pub over-s-items-requires : goal.over-s-items-requires
+over-s-items-requires c = (c.requires.0.valid, omega (arith, c.requires.1))
 
--- and its stretch lies inside
-ends : (c : In-loop-q) → c.loop-q.q + c.loop-q.s.len ≤ c.args.end
-ends c = omega (arith, c.requires.2, standing-end _ _ _ c.requires.0 c.loop-q.invariant.2 (below c))
+pub loop-s-init : goal.loop-s-init
+loop-s-init c =
+    let o = c.over-s-items.ensures in
+    let none : c.over-s-items.result.q - c.args.from ≡ 0 = omega arith in
+    rw c.into_iter-s-iterator.ensures.into_iter_gives
+    (record {
+      can = λ l. o.3;
+      finite = tt;
+      shape = o.0;
+      low = λ l. omega arith;
+      ends = o.2;
+      set = rw none (set-none _ _ _);
+      kept = parity-kept-none _ _;
+    })
 
-inside : (c : In-loop-q) → c.loop-q.s.at + c.loop-q.s.len ≤ c.args.sh.w * cells c.args.sh
-inside c = standing-inside _ _ _ c.requires.0 c.loop-q.invariant.2 (below c)
-
-pub stretch_at-s-requires : goal.stretch_at-s-requires
-stretch_at-s-requires c = (c.requires.0, omega (arith, c.smaller-q.ensures.1, c.requires.2))
-
-pub loop-q-init : goal.loop-q-init
-loop-q-init c =
-    let smaller = c.smaller-q.ensures in
-    let none : c.smaller-q.result - c.args.from ≡ 0 = omega (arith, smaller.0) in (
-      smaller.1,
-      λ l. omega (arith, smaller.2 l),
-      c.stretch_at-s.ensures,
-      rw none (set-none _ _ _),
-      parity-kept-none _ _,
-    )
-
-pub overflow_add-q : goal.overflow_add-q
-overflow_add-q c = omega (arith, ends (goal.at.overflow_add-q c).In-loop-q)
-
-pub next_row-s-requires : goal.next_row-s-requires
-next_row-s-requires c =
-    (c.requires.0, omega (arith, inside (goal.at.next_row-s-requires c).In-loop-q, c.requires.0.volume), c.loop-q.invariant.2.second)
-
-pub loop-q-smaller : goal.loop-q-smaller
-loop-q-smaller c = omega (arith, ends (goal.at.loop-q-smaller c).In-loop-q, c.loop-q.invariant.2.some)
-
-pub loop-q-preserved : goal.loop-q-preserved
-loop-q-preserved c =
-    let v = c.requires.0 in
-    let inv = c.loop-q.invariant in
-    let low = inv.1 c.loop-q-test.true in
-    let set = (c.set.ensures.done (omega (arith, inside (goal.at.loop-q-preserved c).In-loop-q, c.requires.1, inv.4.size))).1 in (
-      ends (goal.at.loop-q-preserved c).In-loop-q,
-      λ less. omega arith,
-      c.next_row-s.ensures _ inv.2,
-      set_more _ v _ _ _ _ _ _ _ inv.2 low (omega (arith, ends (goal.at.loop-q-preserved c).In-loop-q, c.requires.2)) inv.3 set,
-      parity-kept-trans inv.4 (stretch-parity _ v _ _ _ _ _ inv.2 (omega arith) set.kept (below (goal.at.loop-q-preserved c).In-loop-q)),
-    )
+pub loop-s-preserved : goal.loop-s-preserved
+loop-s-preserved c =
+    let v = c.requires.0.valid in
+    let inv = c.loop-s.invariant in
+    let step = c.in-Some.ensures.steps in
+    let ahead = lies-ahead _ _ _ _ c.requires.0.valid inv.shape (inv.can step.less) (omega (arith, step.less, inv.ends, c.requires.1)) in
+    let low = inv.low (omega (arith, step.less, inv.ends)) in
+    let room : c.next.new.self.q ≤ c.args.end = omega (arith, c.next.new.self.begun, step.end, inv.ends) in
+    let set = rw step.place at (c.set.ensures.done (omega (arith, ahead.inside, step.place, step.part, inv.kept.size, c.requires.0.size))).1 in
+    record {
+      can = c.in-Some.ensures.goes.keeps;
+      finite = tt;
+      shape = step.shape ∙ inv.shape;
+      low = λ l. omega (arith, step.next);
+      ends = step.end ∙ inv.ends;
+      set = rw step.next (set_more _ v _ _ _ _ _ _ _ _ ahead.standing step.part low (omega (arith, step.next, c.requires.1)) inv.set set);
+      kept = parity-kept-trans inv.kept (stretch-parity _ v _ _ _ _ _ ahead.standing step.part set.kept ahead.below);
+    }
 
 pub returns : goal.returns
 returns c =
-    let all : c.loop-q.q ≡ capacity c.args.sh = omega (arith, c.requires.2) in
-    (rw all at c.loop-q.invariant.3, c.loop-q.invariant.4)
+    let inv = c.loop-s.invariant in
+    let all : c.loop-s.s-iterator.q ≡ capacity c.args.sh = omega (arith, c.in-None.ensures.steps, c.loop-s.s-iterator.begun, inv.ends, c.requires.1) in
+    (rw all at inv.set, inv.kept)

@@ -1,13 +1,18 @@
--- `data::writer::set_from` goes stretch by stretch: the bytes from `from` on before q are set, and byte q begins a stretch. Assumes nothing.
+-- `data::writer::set_from` goes piece by piece: the bytes before the next piece are set.
+use mathlib.Core.Path.{◌≡◌}
 use Prim.Native.Nat.{◌-◌, ◌≤◌, ◌<◌}
 use Rattle.span.specs.Span.{SetTo}
 use Rattle.data.specs.Data.{held_data, ParityKept}
-use Rattle.data.specs.Inner.Place.{Standing}
 use Rattle.data.proofs.writer.set_from.Given as goal
 
-abbrev pub invariant-loop-q : goal.invariant-loop-q
-invariant-loop-q l =
-    (l.q ≤ l.end) × (l.q < l.end → l.from ≤ l.q) × Standing l.sh l.q l.s × SetTo (held_data l.sh l.initial.cube) l.from (l.q - l.from) l.value (held_data l.sh l.cube) × ParityKept l.sh l.initial.cube l.cube
-
-abbrev pub decreases-loop-q : goal.decreases-loop-q
-decreases-loop-q l = l.end - l.q
+abbrev pub invariant-loop-s : goal.invariant-loop-s
+invariant-loop-s l =
+    record {
+      can : (goal.iterator-loop-s).can_next l.s-iterator;
+      finite : (goal.iterator-loop-s).is_finite l.s-iterator;
+      shape : l.s-iterator.sh ≡ l.fn.sh;
+      low : l.s-iterator.q < l.fn.end → l.from ≤ l.s-iterator.q;
+      ends : l.s-iterator.end ≡ l.fn.end;
+      set : SetTo (held_data l.fn.sh l.initial.cube) l.from (l.s-iterator.q - l.from) l.value (held_data l.fn.sh l.cube);
+      kept : ParityKept l.fn.sh l.initial.cube l.cube;
+    }

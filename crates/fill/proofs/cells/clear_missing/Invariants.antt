@@ -1,13 +1,7 @@
 -- `fill::cells::clear_missing` makes every missing cell 00h, one after the other.
-use Prim.Native.Nat.{◌-◌, ◌≤◌}
-use lib.ListN.{length}
 use Rattle.shape.specs.Flags.{missing}
 use Rattle.fill.proofs.Clearing.{ClearedTo}
 use Rattle.fill.proofs.cells.clear_missing.Given as goal
 
 abbrev pub invariant-loop-n : goal.invariant-loop-n
-invariant-loop-n l =
-    (l.n ≤ length l.flags) × ClearedTo l.w (missing l.flags) l.n l.initial.cube l.cube
-
-abbrev pub decreases-loop-n : goal.decreases-loop-n
-decreases-loop-n l = length l.flags - l.n
+invariant-loop-n l = ClearedTo l.w (missing l.flags) l.n l.initial.cube l.cube

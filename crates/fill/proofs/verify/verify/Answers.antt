@@ -5,7 +5,6 @@ use native.Mathlib.Omega.{arith}
 use Rattle.fill.proofs.Lines.{code-right}
 use Rattle.fill.proofs.verify.verify.Goals as goal
 
-pub returns : goal.returns
-returns c =
-    code-right _ _ _ _ c.requires (λ p. omega (arith, c.shared_slice_known-1.given p))
-    (sym c.none_missing.ensures ∙ c.if-not-none_missing.false) _ c.is_code.ensures
+pub returns-then-none_missing : goal.returns-then-none_missing
+returns-then-none_missing c =
+    code-right _ _ _ _ c.requires (λ p. omega (arith, c.type_inv.cube p)) (sym c.none_missing.ensures ∙ c.if-none_missing.true) _ c.is_code.ensures

@@ -1,14 +1,11 @@
 -- `fill::verify::verify_axis` tells whether every line of an axis without a missing cell is a codeword in every layer.
-use Prim.Native.Nat.{◌-◌, ◌≤◌}
+use Prim.Native.Nat.{◌≤◌}
 use Rattle.shape.specs.Shapes.{lines_of}
 use Rattle.field.specs.Field.{reduction}
 use Rattle.fill.specs.Inner.Verify.{Right}
 use Rattle.fill.proofs.Lines.{Below}
 use Rattle.fill.proofs.verify.verify_axis.Given as goal
 
-abbrev pub invariant-loop-line : goal.invariant-loop-line
-invariant-loop-line l =
+abbrev pub invariant-loop-m : goal.invariant-loop-m
+invariant-loop-m l =
     (l.m ≤ lines_of l.sh l.axis) × Below l.sh l.axis (Right reduction l.sh l.cube l.flags) l.m
-
-abbrev pub decreases-loop-line : goal.decreases-loop-line
-decreases-loop-line l = lines_of l.sh l.axis - l.m

@@ -11,18 +11,18 @@ use Rattle.jibrufath.proofs.cubes.jibrufath_fill.Goals as goal
 
 pub overflow_mul-result : goal.overflow_mul-result
 overflow_mul-result c =
-    let few : c.in-Left.n ≤ 16581375 = left_le (left-outcome _ _ c.fill-answer.ensures c.in-Left.is) in
+    let few : c.in-Ok.n ≤ 16581375 = left_le (left-outcome _ _ c.fill.ensures c.in-Ok.is) in
     omega arith
 
-pub returns-in-Left : goal.returns-in-Left
+pub returns-in-Ok : goal.returns-in-Ok
 unfolding shape fill_value cells_left
-returns-in-Left c =
-    let e = ap fill_value c.in-Left.is in
-    record { value = _; outcome = c.fill-answer.ensures; word_packed = sym (packed-result cells_left _ _ e) }
+returns-in-Ok c =
+    let e = ap fill_value c.in-Ok.is in
+    record { value = _; outcome = c.fill.ensures; word_packed = sym (packed-result cells_left _ _ e) }
 
-pub returns-in-Refused : goal.returns-in-Refused
+pub returns-in-Err : goal.returns-in-Err
 unfolding shape fill_value
-returns-in-Refused c =
-    let o = c.fill-answer.ensures in
-    let e = ap fill_value c.in-Refused.is in
+returns-in-Err c =
+    let o = c.fill.ensures in
+    let e = ap fill_value c.in-Err.is in
     record { value = _; outcome = o; word_packed = c.number.ensures ∙ sym (packed-refusal cells_left _ _ e (fill-places _ o e)) }

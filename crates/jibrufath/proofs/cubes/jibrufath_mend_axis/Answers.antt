@@ -1,12 +1,12 @@
 -- `jibrufath::cubes::jibrufath_mend_axis` meets its contract: the call names no place.
-use mathlib.Core.Path.{sym, ◌∙◌}
-use Rattle.jibrufath.specs.Exports.{shape, uncounted}
-use Rattle.jibrufath.proofs.Words.{packed-alone}
+use native.Mathlib.Omega.{arith}
+use Rattle.jibrufath.specs.Exports.{shape}
 use Rattle.jibrufath.proofs.Places.{axis-places}
 use Rattle.jibrufath.proofs.cubes.jibrufath_mend_axis.Goals as goal
 
+pub answer_word-requires : goal.answer_word-requires
+answer_word-requires c = rw (axis-places c.mend_axis.ensures) (omega arith)
+
 pub returns : goal.returns
 unfolding shape
-returns c =
-    let o = c.mend_axis.ensures in
-    record { value = _; outcome = o; word_packed = c.word.ensures ∙ sym (packed-alone uncounted _ (axis-places o)) }
+returns c = record { value = _; outcome = c.mend_axis.ensures; word_packed = c.answer_word.ensures }

@@ -10,11 +10,11 @@ unfolding sizes
 overflow_sub-result c =
     rw c.requires.measured c.requires.room
 
-pub returns-in-Refused : goal.returns-in-Refused
-returns-in-Refused c =
-    absurd (written-refused _ (sound-sent _ c.requires) _ c.written_bytes.ensures _ c.in-Refused.is)
+pub returns-in-Err : goal.returns-in-Err
+returns-in-Err c =
+    absurd (written-refused _ (sound-sent _ c.requires) _ c.written_bytes.ensures _ c.in-Err.is)
 
-pub returns-in-Bytes : goal.returns-in-Bytes
-returns-in-Bytes c =
+pub returns-in-Ok : goal.returns-in-Ok
+returns-in-Ok c =
     let h = c.requires in
-    needs-listed _ _ _ h.measured (written-given _ (sound-sent _ h) _ c.written_bytes.ensures _ c.in-Bytes.is)
+    needs-listed _ _ _ h.measured (written-given _ (sound-sent _ h) _ c.written_bytes.ensures _ c.in-Ok.is)

@@ -1,11 +1,10 @@
 -- `jibrufath::packs::jibrufath_write_pack` meets its contract: the call names no place.
-use mathlib.Core.Path.{sym, ◌∙◌}
-use Rattle.jibrufath.specs.Exports.{uncounted}
-use Rattle.jibrufath.proofs.Words.{packed-alone}
+use native.Mathlib.Omega.{arith}
 use Rattle.jibrufath.proofs.Places.{write-places}
 use Rattle.jibrufath.proofs.packs.jibrufath_write_pack.Goals as goal
 
+pub answer_word-requires : goal.answer_word-requires
+answer_word-requires c = rw (write-places c.write_pack.ensures) (omega arith)
+
 pub returns : goal.returns
-returns c =
-    let o = c.write_pack.ensures in
-    record { value = _; outcome = o; word_packed = c.word.ensures ∙ sym (packed-alone uncounted _ (write-places o)) }
+returns c = record { value = _; outcome = c.write_pack.ensures; word_packed = c.answer_word.ensures }

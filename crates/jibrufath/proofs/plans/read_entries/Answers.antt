@@ -1,12 +1,12 @@
 -- `jibrufath::plans::read_entries` meets its contract.
-use Rattle.plan_form.specs.Form.{plan_value}
+use Rattle.answer.specs.Values.{value_of}
 use Rattle.jibrufath.specs.Plans.{entries_in}
 use Rattle.jibrufath.proofs.Endings.{refused-entries}
 use Rattle.jibrufath.proofs.plans.read_entries.Goals as goal
 
-pub returns-in-Counted : goal.returns-in-Counted
-unfolding plan_value entries_in
-returns-in-Counted c = rw c.in-Counted.is c.entry_places.ensures
+pub returns-in-Ok : goal.returns-in-Ok
+unfolding value_of entries_in
+returns-in-Ok c = rw c.in-Ok.is c.entry_places.ensures
 
-pub returns-in-Refused : goal.returns-in-Refused
-returns-in-Refused c = refused-entries _ _ c.in-Refused.is
+pub returns-in-Err : goal.returns-in-Err
+returns-in-Err c = refused-entries _ _ c.in-Err.is

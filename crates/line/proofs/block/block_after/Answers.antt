@@ -2,9 +2,11 @@
 use native.Mathlib.Omega.{arith}
 use Rattle.line.proofs.Parts.{part-block}
 use Rattle.line.proofs.block.block_after.Goals as goal
-
-pub returns-then-run-ge4096 : goal.returns-then-run-ge4096
-returns-then-run-ge4096 c = part-block c.lines_from.ensures (omega arith) (omega arith) (omega arith) (omega arith)
+use Rattle.line.proofs.block.block_after.Goals.{then-run-gt16+then-run-ge4096, else-run-gt16}
 
 pub returns : goal.returns
-returns c = part-block c.lines_from-2.ensures (omega arith) (omega arith) (omega arith) (omega arith)
+returns c =
+    elim c.if-run-gt16.branch [
+      | then-run-gt16+then-run-ge4096 w ↦ part-block c.lines_from.ensures (omega arith) (omega arith) (omega arith) (omega arith)
+      | else-run-gt16 w ↦ part-block c.lines_from.ensures (omega arith) (omega arith) (omega arith) (omega arith)
+    ]

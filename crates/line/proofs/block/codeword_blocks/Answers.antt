@@ -1,15 +1,9 @@
 -- `line::block::codeword_blocks` decides whether all lines of a run are codewords, block by block.
 use native.Mathlib.Omega.{arith}
-use Rattle.span.proofs.Decision.{decides-yes, decides-no, decides-false, decides-true}
+use Rattle.span.proofs.Decision.{decides-no, decides-false, decides-true}
 use Rattle.line.proofs.Geometry.{inside-first}
 use Rattle.line.proofs.Parts.{cover-inside, cover-first, codewords-block, codewords-more}
 use Rattle.line.proofs.block.codeword_blocks.Goals as goal
-
-pub loop-done-init : goal.loop-done-init
-loop-done-init c = (omega arith, λ t h. absurd (omega arith))
-
-pub next_block-next-requires : goal.next_block-next-requires
-next_block-next-requires c = omega (arith, inside-first _ _ c.requires)
 
 pub codeword_block-requires : goal.codeword_block-requires
 codeword_block-requires c = (cover-inside _ _ _ _ c.requires c.next_block-next.ensures, c.next_block-next.ensures.few_lines)
@@ -37,6 +31,3 @@ loop-done-preserved c = (
   omega (arith, cover-first c.next_block-next.ensures, c.next_block-next.ensures.within),
   codewords-more _ _ c.next_block-next.ensures c.loop-done.invariant.1 (decides-true c.codeword_block.ensures c.if-not-codeword_block.false),
 )
-
-pub returns : goal.returns
-returns c = decides-yes (λ t h. c.loop-done.invariant.1 t (omega arith))

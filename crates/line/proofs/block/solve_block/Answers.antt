@@ -19,9 +19,6 @@ combine-requires c =
 pub returns-then-erased_to_end : goal.returns-then-erased_to_end
 returns-then-erased_to_end c = combining-end c.requires.2 (c.erased_to_end.ensures.yes_then c.if-erased_to_end.true) c.first_places.ensures c.combine.ensures
 
-pub clear-requires-2 : goal.clear-requires-2
-clear-requires-2 c = (inside-size c.requires.0 c.clear.ensures.kept.size, c.requires.3)
-
 pub combine-requires-2 : goal.combine-requires-2
 combine-requires-2 c =
     let inside = inside-size c.requires.0 (c.clear-2.ensures.kept.size ∙ c.clear.ensures.kept.size) in

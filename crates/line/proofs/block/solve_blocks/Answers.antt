@@ -8,9 +8,6 @@ use Rattle.line.proofs.block.solve_blocks.Goals as goal
 pub loop-done-init : goal.loop-done-init
 loop-done-init c = (omega arith, changed-none _ _ _ _)
 
-pub next_block-next-requires : goal.next_block-next-requires
-next_block-next-requires c = omega (arith, inside-first _ _ c.requires.0)
-
 pub solve_block-requires : goal.solve_block-requires
 solve_block-requires c = (
   cover-inside _ _ _ _ (inside-size c.requires.0 c.loop-done.invariant.1.size) c.next_block-next.ensures,

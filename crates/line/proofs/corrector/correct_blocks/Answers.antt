@@ -1,6 +1,5 @@
 -- `line::corrector::correct_blocks` corrects the lines of a run, block by block.
 use native.Mathlib.Omega.{arith}
-use Rattle.line.proofs.Geometry.{inside-first}
 use Rattle.line.proofs.Parts.{changed-none, changed-next, changed-all, block-cover, cover-inside, inside-size}
 use Rattle.line.proofs.Correction.{corrected-changed, changed-corrected}
 use Rattle.line.proofs.corrector.correct_blocks.Goals as goal
@@ -8,20 +7,11 @@ use Rattle.line.proofs.corrector.correct_blocks.Goals as goal
 pub loop-done-init : goal.loop-done-init
 loop-done-init c = (omega arith, changed-none _ _ _ _)
 
-pub block_after-next-requires : goal.block_after-next-requires
-block_after-next-requires c = omega (arith, inside-first _ _ c.requires)
-
 pub correct_block-requires : goal.correct_block-requires
 correct_block-requires c = (
   cover-inside _ _ _ _ (inside-size c.requires c.loop-done.invariant.1.size) (block-cover c.block_after-next.ensures),
   c.block_after-next.ensures.few_lines,
 )
-
-pub overflow_add-done : goal.overflow_add-done
-overflow_add-done c = omega (arith, inside-first _ _ c.requires, c.block_after-next.ensures.within)
-
-pub loop-done-smaller : goal.loop-done-smaller
-loop-done-smaller c = omega (arith, c.block_after-next.ensures.within, c.block_after-next.ensures.some_line)
 
 pub loop-done-preserved : goal.loop-done-preserved
 loop-done-preserved c = (

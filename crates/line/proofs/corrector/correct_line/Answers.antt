@@ -3,23 +3,23 @@ use mathlib.Core.Path.{subst}
 use Prim.Native.Nat.{◌+◌, ◌*◌, ◌≤◌}
 use native.Mathlib.Omega.{arith}
 use lib.ListN.{length}
-use Rattle.solver.specs.declared.Place.TheVariants.{At}
+use Rattle.std.specs.Prelude.{Some}
 use Rattle.solver.specs.Solver.{PlaceOutcome}
 use Rattle.line.proofs.Correction.{corrected-nowhere, corrected-found}
 use Rattle.line.proofs.corrector.correct_line.Goals as goal
-use Rattle.line.proofs.corrector.correct_line.Goals.{In-At, Start}
+use Rattle.line.proofs.corrector.correct_line.Goals.{In-Some, Start}
 
 -- the place that was found
 found :
-    (c : In-At) →
-    PlaceOutcome c.args.reduction c.args.v0 c.args.v1 c.args.run.len (At c.in-At.j)
-found c = subst (PlaceOutcome _ _ _ _) c.in-At.is c.error_place-place.ensures
+    (c : In-Some) →
+    PlaceOutcome c.args.reduction c.args.v0 c.args.v1 c.args.run.len (Some c.in-Some.j)
+found c = subst (PlaceOutcome _ _ _ _) c.in-Some.is c.error_place-place.ensures
 
 strip :
-    (c : In-At) →
-    c.args.run.first + c.args.run.stride * c.in-At.j + c.args.run.width ≤ length c.args.s.now
+    (c : In-Some) →
+    c.args.run.first + c.args.run.stride * c.in-Some.j + c.args.run.width ≤ length c.args.s.now
 unfolding PlaceOutcome
-strip c = c.requires.0.fits c.in-At.j (found c).0.below
+strip c = c.requires.0.fits c.in-Some.j (found c).0.below
 
 pub returns-in_default : goal.returns-in_default
 unfolding PlaceOutcome
@@ -28,23 +28,23 @@ returns-in_default c =
     (subst (PlaceOutcome _ _ _ _) c.in_default.is c.error_place-place.ensures)
 
 pub overflow_mul-p : goal.overflow_mul-p
-overflow_mul-p c = omega (arith, strip (goal.at.overflow_mul-p c).In-At)
+overflow_mul-p c = omega (arith, strip (goal.at.overflow_mul-p c).In-Some)
 
 pub overflow_add-p : goal.overflow_add-p
-overflow_add-p c = omega (arith, strip (goal.at.overflow_add-p c).In-At)
+overflow_add-p c = omega (arith, strip (goal.at.overflow_add-p c).In-Some)
 
 pub overflow_add-p-2 : goal.overflow_add-p-2
-overflow_add-p-2 c = omega (arith, strip (goal.at.overflow_add-p-2 c).In-At)
+overflow_add-p-2 c = omega (arith, strip (goal.at.overflow_add-p-2 c).In-Some)
 
 pub bounds-s-p : goal.bounds-s-p
-bounds-s-p c = omega (arith, strip (goal.at.bounds-s-p c).In-At)
+bounds-s-p c = omega (arith, strip (goal.at.bounds-s-p c).In-Some)
 
 pub bounds-s-p-2 : goal.bounds-s-p-2
-bounds-s-p-2 c = omega (arith, strip (goal.at.bounds-s-p-2 c).In-At)
+bounds-s-p-2 c = omega (arith, strip (goal.at.bounds-s-p-2 c).In-Some)
 
 pub returns : goal.returns
 unfolding PlaceOutcome
 returns c =
     let start = (goal.at.returns c).Start in
-    corrected-found _ _ _ _ _ _ start.requires.2 start.requires.3 _ _ start.requires.0 start.requires.1 (found (goal.at.returns c).In-At)
+    corrected-found _ _ _ _ _ _ start.requires.2 start.requires.3 _ _ start.requires.0 start.requires.1 (found (goal.at.returns c).In-Some)
     c.add.ensures

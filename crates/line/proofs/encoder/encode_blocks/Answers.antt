@@ -9,7 +9,7 @@ solve_blocks-requires c =
     let order = parity-order _ pre.2 pre.1 in
     (inside-size pre.0 c.place.ensures.size, order.0, order.1)
 
-pub returns : goal.returns
-returns c =
+pub returns-else-to-le16 : goal.returns-else-to-le16
+returns-else-to-le16 c =
     let pre = c.requires in
     written-encoded pre.0 pre.1 pre.2 c.place.ensures c.solve_blocks.ensures

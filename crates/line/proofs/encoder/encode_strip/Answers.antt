@@ -1,27 +1,17 @@
 -- `line::encoder::encode_strip` copies and sums the data places of 64 lines, and writes their parity from the sums.
-use mathlib.Core.Path.{refl}
 use native.Mathlib.Omega.{arith}
-use Rattle.line.proofs.Geometry.{inside-first}
 use Rattle.line.proofs.Parts.{inside-size}
 use Rattle.line.proofs.Encoding.{parity-order, strip-inside, strip-feeds, strip-width, strip-places, strip-encoded}
 use Rattle.line.proofs.encoder.encode_strip.Goals as goal
 
-pub lines_from-source-requires : goal.lines_from-source-requires
-lines_from-source-requires c = omega (arith, inside-first _ _ c.requires.1.inside, c.requires.1.lines)
-
-pub lines_from-target-requires : goal.lines_from-target-requires
-lines_from-target-requires c = omega (arith, inside-first _ _ c.requires.0)
-
-pub place_strip-requires : goal.place_strip-requires
-place_strip-requires c =
+pub place_strip-sums-requires : goal.place_strip-sums-requires
+place_strip-sums-requires c =
     let pre = c.requires in
     let es = c.lines_from-source.ensures in
     let et = c.lines_from-target.ensures in (
       strip-inside _ _ _ es et pre.3 pre.0,
       strip-feeds _ _ _ es et pre.3 pre.1,
       strip-width _ _ _ es et pre.3,
-      refl,
-      refl,
     )
 
 pub combine-requires : goal.combine-requires
@@ -30,7 +20,7 @@ combine-requires c =
     let es = c.lines_from-source.ensures in
     let et = c.lines_from-target.ensures in
     let order = parity-order _ pre.2 pre.1 in (
-      inside-size (strip-inside _ _ _ es et pre.3 pre.0) c.place_strip.ensures.0.size,
+      inside-size (strip-inside _ _ _ es et pre.3 pre.0) c.place_strip-sums.ensures.0.size,
       strip-width _ _ _ es et pre.3,
       order.0,
       omega (arith, order.1, strip-places _ _ _ es et pre.3),
@@ -39,4 +29,4 @@ combine-requires c =
 pub returns : goal.returns
 returns c =
     let pre = c.requires in
-    strip-encoded _ _ _ c.lines_from-source.ensures c.lines_from-target.ensures pre.3 pre.0 pre.1 pre.2 c.place_strip.ensures c.combine.ensures
+    strip-encoded _ _ _ c.lines_from-source.ensures c.lines_from-target.ensures pre.3 pre.0 pre.1 pre.2 c.place_strip-sums.ensures c.combine.ensures

@@ -19,51 +19,30 @@ to-strip :
     c.args.to.first + c.args.to.stride * i + 64 ≤ length c.args.s.now
 to-strip c i h = omega (arith, c.requires.0.fits i (omega (arith, c.requires.1.places)), c.requires.2)
 
-pub loop-left-init : goal.loop-left-init
-loop-left-init c =
-    let pre = c.requires in
-    let few : c.args.from.width ≤ 64 = omega (arith, pre.1.lines, pre.2) in (
-      omega arith,
+pub loop-i-init : goal.loop-i-init
+loop-i-init c =
+    let zeros = c.zeros-sums.ensures in
+    let few : c.args.from.width ≤ 64 = omega (arith, c.requires.1.lines, c.requires.2) in (
       between_none _ _ _ _ _ _ (omega arith),
-      ap length pre.3 ∙ length-replicate {A = ℕ} 64 0,
-      ap length pre.4 ∙ length-replicate {A = ℕ} 64 0,
-      tails-none _ _ _ _ _ (empty-replicate 64 _ _ few pre.3) (empty-replicate 64 _ _ few pre.4),
+      ap length zeros.first ∙ length-replicate {A = ℕ} 64 0,
+      ap length zeros.second ∙ length-replicate {A = ℕ} 64 0,
+      tails-none _ _ _ _ _ (empty-replicate 64 _ _ few zeros.first) (empty-replicate 64 _ _ few zeros.second),
     )
 
-pub overflow_mul-from : goal.overflow_mul-from
-overflow_mul-from c = omega (arith, from-strip (goal.at.overflow_mul-from c).Start (c.loop-left.left - 1) (omega arith))
-
-pub overflow_add-from : goal.overflow_add-from
-overflow_add-from c = omega (arith, from-strip (goal.at.overflow_add-from c).Start (c.loop-left.left - 1) (omega arith))
-
-pub overflow_mul-to : goal.overflow_mul-to
-overflow_mul-to c = omega (arith, to-strip (goal.at.overflow_mul-to c).Start (c.loop-left.left - 1) (omega arith))
-
-pub overflow_add-to : goal.overflow_add-to
-overflow_add-to c = omega (arith, to-strip (goal.at.overflow_add-to c).Start (c.loop-left.left - 1) (omega arith))
-
-pub copy_strip-c-requires : goal.copy_strip-c-requires
-copy_strip-c-requires c = tt
-
-pub step-requires : goal.step-requires
-step-requires c = tt
-
-pub loop-left-preserved : goal.loop-left-preserved
-loop-left-preserved c =
-    let start = (goal.at.loop-left-preserved c).Start in
-    let turn = c.loop-left in
-    let some = c.loop-left-test.true in
+pub loop-i-preserved : goal.loop-i-preserved
+loop-i-preserved c =
+    let start = (goal.at.loop-i-preserved c).Start in
+    let turn = c.loop-i in
     let wide : start.args.to.width ≡ 64 = start.requires.2 in
-    let here : turn.left - 1 < start.args.from.len = omega arith in
+    let here : turn.i - 1 < start.args.from.len = omega arith in
     let done = c.copy_strip-c.ensures.done
-    (from-strip start (turn.left - 1) here, omega (arith, to-strip start (turn.left - 1) here, turn.invariant.1.size)) in (
-      omega arith,
-      between_more turn.invariant.1 _ _ (turn.left - 1) (rw wide done.0) start.requires.0.apart (omega arith) (omega arith),
-      c.step.ensures.size0 ∙ turn.invariant.2,
-      c.step.ensures.size1 ∙ turn.invariant.3,
-      tails-one start.ranges.reduction.fits (λ p. (c.shared_slice_known-1.given p).fits) turn.invariant.4
-          (step-one (omega (arith, start.requires.1.lines)) turn.invariant.2 turn.invariant.3 done.1 c.step.ensures) (omega arith) (omega arith),
+    (from-strip start (turn.i - 1) here, omega (arith, to-strip start (turn.i - 1) here, turn.invariant.0.size)) in (
+      between_more turn.invariant.0 _ _ (turn.i - 1) (rw wide done.0) start.requires.0.apart (omega arith) (omega arith),
+      c.step.ensures.size0 ∙ turn.invariant.1,
+      c.step.ensures.size1 ∙ turn.invariant.2,
+      tails-one start.ranges.reduction.fits (λ p. (c.type_inv.«data» p).fits) turn.invariant.3
+          (step-one (omega (arith, start.requires.1.lines)) turn.invariant.1 turn.invariant.2 done.1 c.step.ensures) (omega arith) (omega arith),
     )
 
 pub returns : goal.returns
-returns c = (between-all c.loop-left.invariant.1 (omega arith) refl, tails-whole _ _ _ _ _ (tails-at _ _ (omega arith) c.loop-left.invariant.4))
+returns c = (between-all c.loop-i.invariant.0 (omega arith) refl, tails-whole _ _ _ _ _ (tails-at _ _ (omega arith) c.loop-i.invariant.3))

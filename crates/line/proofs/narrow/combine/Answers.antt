@@ -12,30 +12,6 @@ place :
     c.args.run.first + c.args.run.stride * i + c.args.run.width ≤ length c.args.s.now
 place c i h = c.requires.0.fits i h
 
-pub products-y-requires : goal.products-y-requires
-products-y-requires c = tt
-
-pub sums-x-requires : goal.sums-x-requires
-sums-x-requires c = tt
-
-pub overflow_mul-run : goal.overflow_mul-run
-overflow_mul-run c = omega (arith, place (goal.at.overflow_mul-run c).Start c.args.e.j (omega arith))
-
-pub overflow_add-run : goal.overflow_add-run
-overflow_add-run c = omega (arith, place (goal.at.overflow_add-run c).Start c.args.e.j (omega arith))
-
-pub copy-requires : goal.copy-requires
-copy-requires c = tt
-
-pub overflow_mul-run-2 : goal.overflow_mul-run-2
-overflow_mul-run-2 c = omega (arith, place (goal.at.overflow_mul-run-2 c).Start c.args.e.k c.requires.3)
-
-pub overflow_add-run-2 : goal.overflow_add-run-2
-overflow_add-run-2 c = omega (arith, place (goal.at.overflow_add-run-2 c).Start c.args.e.k c.requires.3)
-
-pub copy-requires-2 : goal.copy-requires-2
-copy-requires-2 c = tt
-
 pub returns : goal.returns
 returns c =
     let start = (goal.at.returns c).Start in

@@ -1,17 +1,10 @@
 -- `line::narrow::roomy` tests whether all 64 bytes of the last place lie inside; then so do those of every place.
-use mathlib.Core.Bool.{false≢true}
 use Prim.Native.Nat.{◌+◌, ◌-◌, ◌*◌}
 use native.Mathlib.Omega.{arith}
 use borrow.Author.Tests.{leb-true}
 use Rattle.line.proofs.Parts.{roomy-last}
 use Rattle.line.proofs.narrow.roomy.Goals as goal
 use Rattle.line.proofs.narrow.roomy.Goals.{Start}
-
-pub returns-then-run-lt6 : goal.returns-then-run-lt6
-returns-then-run-lt6 c = λ e. absurd (false≢true e)
-
-pub overflow_sub-last : goal.overflow_sub-last
-overflow_sub-last c = omega (arith, c.requires.some_place)
 
 pub overflow_mul-last : goal.overflow_mul-last
 overflow_mul-last c = let start = (goal.at.overflow_mul-last c).Start in omega (arith, start.requires.fits (start.args.run.len - 1) (omega (arith, start.requires.some_place)))
@@ -22,9 +15,9 @@ overflow_add-last c = let start = (goal.at.overflow_add-last c).Start in omega (
 pub overflow_sub-result : goal.overflow_sub-result
 overflow_sub-result c = let start = (goal.at.overflow_sub-result c).Start in omega (arith, start.requires.fits (start.args.run.len - 1) (omega (arith, start.requires.some_place)))
 
-pub returns : goal.returns
-returns c =
-    let start = (goal.at.returns c).Start in
+pub returns-then-run-ge6 : goal.returns-then-run-ge6
+returns-then-run-ge6 c =
+    let start = (goal.at.returns-then-run-ge6 c).Start in
     let run = start.args.run in
     λ e. roomy-last run
     (omega

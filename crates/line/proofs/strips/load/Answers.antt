@@ -1,20 +1,16 @@
 -- `line::strips::load` copies byte after byte into an array of zeros.
 use mathlib.Core.Path.{◌≡◌, refl}
 use native.Mathlib.Omega.{arith}
-use Rattle.span.proofs.Copying.{copied_none, copied_more, copied-piece}
+use Rattle.span.proofs.Copying.{copied_more, copied-piece}
 use Rattle.line.proofs.strips.load.Goals as goal
-
-pub loop-t-init : goal.loop-t-init
-loop-t-init c = (omega arith, refl, copied_none _ _ _ _)
 
 pub loop-t-preserved : goal.loop-t-preserved
 loop-t-preserved c = (
-  omega arith,
-  c.loop-t.invariant.1,
-  copied_more _ _ _ _ _ _ _ _ (omega arith) refl (omega (arith, c.loop-t.invariant.2.kept.size)) c.loop-t.invariant.2,
+  c.loop-t.invariant.0,
+  copied_more _ _ _ _ _ _ _ _ (omega arith) refl (omega (arith, c.loop-t.invariant.1.kept.size)) c.loop-t.invariant.1,
 )
 
 pub returns : goal.returns
 returns c =
     let all : c.loop-t.t ≡ 64 = omega arith in
-    copied-piece c.loop-t.invariant.1 (rw all at c.loop-t.invariant.2)
+    copied-piece c.loop-t.invariant.0 (rw all at c.loop-t.invariant.1)

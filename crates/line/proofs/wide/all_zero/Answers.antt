@@ -2,21 +2,15 @@
 use mathlib.Core.Path.{◌≡◌}
 use native.Mathlib.Omega.{arith}
 use Rattle.span.proofs.Decision.{decides_eq}
-use Rattle.span.proofs.Joining.{joined-none, joined-more, or-zero}
+use Rattle.span.proofs.Joining.{joined-more, or-zero}
 use Rattle.line.proofs.wide.all_zero.Goals as goal
 
-pub loop-t-init : goal.loop-t-init
-loop-t-init c = (omega arith, joined-none _)
-
 pub loop-t-preserved : goal.loop-t-preserved
-loop-t-preserved c = (
-  omega arith,
-  joined-more _ _ _ _ c.loop-t.invariant.1 (or-zero _ _) (λ (h0, h1). rw (h0, h1)),
-)
+loop-t-preserved g c = joined-more _ _ _ _ c.loop-t.invariant (or-zero _ _) (λ (h0, h1). rw (h0, h1))
 
 pub returns : goal.returns
-returns c =
+returns g c =
     let all : c.loop-t.t ≡ c.args.width = omega arith in
-    let joined = rw all at c.loop-t.invariant.1 in
+    let joined = rw all at c.loop-t.invariant in
     decides_eq c.loop-t.any 0 (λ z. joined.zero (λ i l. (z.first i l, z.second i l)))
     (λ e. record { first = λ t h. (joined.all e t h).0; second = λ t h. (joined.all e t h).1 })

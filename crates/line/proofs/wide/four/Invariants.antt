@@ -1,16 +1,15 @@
 -- `line::wide::four` takes four of Horner's steps for each line.
-use Prim.Native.Nat.{◌+◌, ◌-◌, ◌≤◌}
+use Prim.Native.Nat.{◌+◌}
 use lib.ListN.{get_or}
 use Rattle.field.specs.Field.{add, xtime}
 use Rattle.strip.proofs.Updated.{Updated}
 use Rattle.line.proofs.wide.four.Given as goal
 
 abbrev pub invariant-loop-t : goal.invariant-loop-t
-invariant-loop-t l =
-    (l.t ≤ l.width)
-    × Updated
+invariant-loop-t g l =
+    Updated
     (λ p x. add (add (add (add x (get_or l.s (l.at3 + p) 0)) (get_or l.s (l.at2 + p) 0)) (get_or l.s (l.at1 + p) 0)) (get_or l.s (l.at + p) 0))
-    0 l.t l.initial.s0 l.s0
+    0 l.t l.initial.sums.first l.sums.first
     × Updated
     (λ p x.
     add
@@ -20,7 +19,4 @@ invariant-loop-t l =
     (add (xtime l.reduction (add (xtime l.reduction x) (get_or l.s (l.at3 + p) 0))) (get_or l.s (l.at2 + p) 0)))
     (get_or l.s (l.at1 + p) 0)))
     (get_or l.s (l.at + p) 0))
-    0 l.t l.initial.s1 l.s1
-
-abbrev pub decreases-loop-t : goal.decreases-loop-t
-decreases-loop-t l = l.width - l.t
+    0 l.t l.initial.sums.second l.sums.second

@@ -1,15 +1,11 @@
 -- `line::wide::one` takes one of Horner's steps for each line.
-use Prim.Native.Nat.{◌+◌, ◌-◌, ◌≤◌}
+use Prim.Native.Nat.{◌+◌}
 use lib.ListN.{get_or}
 use Rattle.field.specs.Field.{add, xtime}
 use Rattle.strip.proofs.Updated.{Updated}
 use Rattle.line.proofs.wide.one.Given as goal
 
 abbrev pub invariant-loop-t : goal.invariant-loop-t
-invariant-loop-t l =
-    (l.t ≤ l.width)
-    × Updated (λ p x. add x (get_or l.s (l.at + p) 0)) 0 l.t l.initial.s0 l.s0
-    × Updated (λ p x. add (xtime l.reduction x) (get_or l.s (l.at + p) 0)) 0 l.t l.initial.s1 l.s1
-
-abbrev pub decreases-loop-t : goal.decreases-loop-t
-decreases-loop-t l = l.width - l.t
+invariant-loop-t g l =
+    Updated (λ p x. add x (get_or l.s (l.at + p) 0)) 0 l.t l.initial.sums.first l.sums.first
+    × Updated (λ p x. add (xtime l.reduction x) (get_or l.s (l.at + p) 0)) 0 l.t l.initial.sums.second l.sums.second

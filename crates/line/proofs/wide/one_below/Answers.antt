@@ -4,9 +4,6 @@ use Rattle.line.proofs.Tails.{tails-at, tails-one}
 use Rattle.line.proofs.wide.one_below.Goals as goal
 
 pub returns-then-left-run : goal.returns-then-left-run
-returns-then-left-run c =
+returns-then-left-run g c =
     tails-at _ _ (omega arith)
-    (tails-one c.ranges.reduction.fits (λ p. (c.shared_slice_known-1.given p).fits) c.requires.1 c.one.ensures (omega arith) (omega arith))
-
-pub returns-else-left-run : goal.returns-else-left-run
-returns-else-left-run c = tails-at _ _ (omega arith) c.requires.1
+    (tails-one c.ranges.reduction.fits (λ p. (c.type_inv.s p).fits) c.requires.1 c.one.ensures (omega arith) (omega arith))

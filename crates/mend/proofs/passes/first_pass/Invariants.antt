@@ -1,11 +1,7 @@
 -- `mend::passes::first_pass` meets its contract. The invariant: the rows below m of the second cube are the corrected rows of the first. Assumes
 -- nothing.
-use Prim.Native.Nat.{◌≤◌, ◌-◌}
 use Rattle.mend.proofs.Rows.{RowsThrough}
 use Rattle.mend.proofs.passes.first_pass.Given as goal
 
 abbrev pub invariant-loop-m : goal.invariant-loop-m
-invariant-loop-m l = (l.m ≤ l.rows) × RowsThrough l.reduction l.w l.l1 l.m l.cube l.second
-
-abbrev pub decreases-loop-m : goal.decreases-loop-m
-decreases-loop-m l = l.rows - l.m
+invariant-loop-m l = RowsThrough l.reduction l.w l.l1 l.m l.cube l.second

@@ -1,13 +1,10 @@
--- `pack::packets::first_unsent` meets its contract: the cells of the packets before i are sent. Assumes nothing.
+-- `pack::packets::first_unsent` meets its contract: the cells of the packets before j are sent. Assumes nothing.
 use mathlib.Core.Path.{◌≡◌}
 use mathlib.Core.Bool.{false}
-use Prim.Native.Nat.{ℕ, ◌-◌, ◌≤◌, ◌<◌}
+use Prim.Native.Nat.{ℕ, ◌<◌}
 use Rattle.pack.specs.Packs.{unsent}
 use Rattle.pack.specs.Packets.{source}
 use Rattle.pack.proofs.packets.first_unsent.Given as goal
 
 abbrev pub invariant-loop-j : goal.invariant-loop-j
-invariant-loop-j l = (l.j ≤ l.end) × ((j : ℕ) → j < l.j → unsent l.h ((source l.pack l.h l.s).place j) ≡ false)
-
-abbrev pub decreases-loop-j : goal.decreases-loop-j
-decreases-loop-j l = l.end - l.j
+invariant-loop-j l = (i : ℕ) → i < l.j → unsent l.h ((source l.pack l.h l.s).place i) ≡ false

@@ -1,50 +1,34 @@
 -- `pack::packets::is_unsent` meets its contract. Assumes nothing.
-use mathlib.Core.Path.{sym}
+use mathlib.Core.Path.{sym, ◌∙◌}
 use native.Mathlib.Omega.{arith}
-use Rattle.pack.proofs.Naming.{data-small, data-fits}
+use borrow.Author.Tests.{ltb-true, ltb-false}
 use Rattle.pack.proofs.Sent.{parity-1, parity-2, parity-3, data-unsent}
 use Rattle.pack.proofs.packets.is_unsent.Goals as goal
+use Rattle.pack.proofs.packets.is_unsent.Goals.{then-a-sh, else-a-sh, then-b-sh, else-b-sh}
 
-pub overflow_add-a : goal.overflow_add-a
-overflow_add-a c = omega (arith, c.requires.0, c.requires.2)
+-- no coordinate is a parity cell's
+pub returns-then-c-sh : goal.returns-then-c-sh
+returns-then-c-sh c =
+    elim c.if-b-sh.branch [
+      | then-b-sh w ↦ elim c.if-a-sh.branch [
+        | then-a-sh v ↦
+            sym (data-unsent _ _ _ _ c.requires.2 c.requires.3
+            (omega (arith, v.if-a-sh.true))
+            (omega (arith, ltb-true _ _ (sym v.value-is ∙ w.if-b-sh.true)))
+            (omega (arith, ltb-true _ _ (sym w.value-is ∙ c.if-c-sh.true))))
+        | else-a-sh v ↦ absurd (omega (arith, v.if-a-sh.false, ltb-true _ _ (sym v.value-is ∙ w.if-b-sh.true)))
+      ]
+      | else-b-sh w ↦ cc
+    ]
 
-pub returns-then-sh-a : goal.returns-then-sh-a
-returns-then-sh-a c = sym (parity-1 _ _ _ _ c.requires.2 c.requires.3 c.if-sh-a.true)
-
-pub overflow_add-b : goal.overflow_add-b
-overflow_add-b c = omega (arith, c.requires.1, c.requires.3)
-
-pub returns-then-sh-b : goal.returns-then-sh-b
-returns-then-sh-b c = sym (parity-2 _ _ _ _ c.requires.2 c.requires.3 c.if-sh-b.true)
-
-pub overflow_add-c : goal.overflow_add-c
-overflow_add-c c = omega (arith, c.requires.5)
-
-pub returns-then-sh-c : goal.returns-then-sh-c
-returns-then-sh-c c = sym (parity-3 _ _ _ _ c.requires.2 c.requires.3 c.if-sh-c.true)
-
-pub overflow_sub-result : goal.overflow_sub-result
-overflow_sub-result c = omega (arith, c.if-sh-a.false)
-
-pub overflow_sub-result-2 : goal.overflow_sub-result-2
-overflow_sub-result-2 c = omega (arith, c.if-sh-b.false)
-
-pub overflow_mul-result : goal.overflow_mul-result
-overflow_mul-result c =
-    omega (arith, data-small _ _ c.requires.1 c.requires.5)
-
-pub overflow_add-result : goal.overflow_add-result
-overflow_add-result c =
-    omega (arith, c.requires.1, c.requires.3, data-small _ _ c.requires.1 c.requires.5)
-
-pub overflow_mul-result-2 : goal.overflow_mul-result-2
-overflow_mul-result-2 c =
-    omega (arith, data-fits _ _ _ _ c.requires.0 c.requires.1 c.requires.3 c.requires.5)
-
-pub overflow_add-result-2 : goal.overflow_add-result-2
-overflow_add-result-2 c =
-    omega (arith, c.requires.0, c.requires.2, data-fits _ _ _ _ c.requires.0 c.requires.1 c.requires.3 c.requires.5)
-
-pub returns : goal.returns
-returns c =
-    sym (data-unsent _ _ _ _ c.requires.2 c.requires.3 (omega (arith, c.if-sh-a.false)) (omega (arith, c.if-sh-b.false)) (omega (arith, c.if-sh-c.false)))
+-- one is
+pub returns-else-c-sh : goal.returns-else-c-sh
+returns-else-c-sh c =
+    c.if-c-sh.false
+    ∙ sym (elim c.if-a-sh.branch [
+      | then-a-sh v ↦ elim c.if-b-sh.branch [
+        | then-b-sh w ↦ parity-3 _ _ _ _ c.requires.2 c.requires.3 (ltb-false _ _ (sym w.value-is ∙ c.if-c-sh.false))
+        | else-b-sh w ↦ parity-2 _ _ _ _ c.requires.2 c.requires.3 (ltb-false _ _ (sym v.value-is ∙ w.if-b-sh.false))
+      ]
+      | else-a-sh v ↦ parity-1 _ _ _ _ c.requires.2 c.requires.3 v.if-a-sh.false
+    ])

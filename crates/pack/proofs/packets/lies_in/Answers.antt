@@ -1,5 +1,4 @@
 -- `pack::packets::lies_in` compares by a quotient, so that no sum or product can wrap. Assumes nothing.
-use mathlib.Core.Bool.{false≢true}
 use Prim.Native.Nat.{◌+◌, ◌-◌, ◌*◌, ◌/◌}
 use native.Mathlib.Decide.{dec_le}
 use native.Mathlib.Nat.{le-div_iff_mul-le, add-mul, one-mul}
@@ -7,14 +6,8 @@ use native.Mathlib.Omega.{arith}
 use borrow.Author.Tests.{ltb-true, ltb-false}
 use Rattle.pack.proofs.packets.lies_in.Goals as goal
 
-pub returns-then-len-at : goal.returns-then-len-at
-returns-then-len-at c = (λ e. absurd (false≢true e), λ e. omega arith)
-
-pub nonzero_div-result : goal.nonzero_div-result
-nonzero_div-result c = c.requires
-
-pub returns : goal.returns
-returns c =
+pub returns-then-at-len : goal.returns-then-at-len
+returns-then-at-len c =
     let a = c.args in
     let room = a.len - a.at in
     let fits = le-div_iff_mul-le {k = a.size} {x = a.i + 1} {y = room} c.requires in

@@ -9,9 +9,9 @@ pub returns-then-n-ne9 : goal.returns-then-n-ne9
 unfolding given_at
 returns-then-n-ne9 c = rw (ne_eqb _ _ c.if-n-ne9.true)
 
-pub returns-in_default : goal.returns-in_default
-returns-in_default c = absurd (omega (arith, c.requires, c.if-n-ne9.false, count-short _ _ _ c.count-counted.ensures c.in_default.is))
+pub returns-in-Err : goal.returns-in-Err
+returns-in-Err c = absurd (omega (arith, c.requires, c.if-n-ne9.false, count-short _ _ _ c.count.ensures _ c.in-Err.is))
 
-pub returns : goal.returns
+pub returns-in-Ok : goal.returns-in-Ok
 unfolding given_at
-returns c = rw (eq-eqb _ _ c.if-n-ne9.false) (count-known _ _ _ c.count-counted.ensures _ _ c.in-Count.is).1
+returns-in-Ok c = rw (eq-eqb _ _ c.if-n-ne9.false) (count-known _ _ _ c.count.ensures _ _ c.in-Ok.is).1

@@ -7,6 +7,6 @@ pub returns-then-n-eq5 : goal.returns-then-n-eq5
 unfolding is_count
 returns-then-n-eq5 c = rw (eq-eqb _ _ c.if-n-eq5.true)
 
-pub returns : goal.returns
+pub returns-else-n-eq5 : goal.returns-else-n-eq5
 unfolding is_count
-returns c = rw (ne_eqb _ _ c.if-n-eq5.false)
+returns-else-n-eq5 c = rw (ne_eqb _ _ c.if-n-eq5.false)

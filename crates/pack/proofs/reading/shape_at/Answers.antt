@@ -4,5 +4,4 @@ use Rattle.pack.proofs.reading.shape_at.Goals as goal
 
 pub returns : goal.returns
 unfolding shape_at
-returns c =
-    rw (c.wide.ensures.0, c.wide-2.ensures.0, c.wide-3.ensures.0, c.wide-4.ensures.0, c.wide-5.ensures.0)
+returns c = rw (c.from.ensures, c.from-2.ensures, c.from-3.ensures, c.from-4.ensures, c.from-5.ensures)

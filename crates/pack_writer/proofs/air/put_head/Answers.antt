@@ -4,9 +4,6 @@ use Rattle.cursor.specs.Steps.{word_bytes}
 use Rattle.pack_writer.proofs.Laying.{laid-laid, section-length}
 use Rattle.pack_writer.proofs.air.put_head.Goals as goal
 
-pub put_section-second-requires : goal.put_section-second-requires
-put_section-second-requires c = (c.requires.0, omega (arith, c.requires.1), λ nine. omega (arith, c.requires.2 nine))
-
 pub put_count-third-requires : goal.put_count-third-requires
 put_count-third-requires c =
     let l = c.put_section-second.ensures in

@@ -7,9 +7,6 @@ use Rattle.pack.specs.Packs.{shape_bytes, section_one}
 use Rattle.pack_writer.proofs.Laying.{laid-laid}
 use Rattle.pack_writer.proofs.air.put_section.Goals as goal
 
-pub put_count-body-requires : goal.put_count-body-requires
-put_count-body-requires c = omega (arith, c.requires.1)
-
 pub put_shape-behind-requires : goal.put_shape-behind-requires
 unfolding word_bytes
 put_shape-behind-requires c =
@@ -29,8 +26,8 @@ returns-then-count-eq9 c =
     rw (eq-eqb _ _ c.if-count-eq9.true)
     (laid-laid c.put_count-body.ensures (laid-laid c.put_shape-behind.ensures c.put_count.ensures))
 
-pub returns : goal.returns
+pub returns-else-count-eq9 : goal.returns-else-count-eq9
 unfolding section_one
-returns c =
+returns-else-count-eq9 c =
     let none = ne_eqb _ _ c.if-count-eq9.false in
     rw (none, append-nil (shape_bytes c.args.sh)) (laid-laid c.put_count-body.ensures c.put_shape-behind.ensures)

@@ -1,12 +1,11 @@
 -- `pack_writer::writing::put_packet` meets its contract. Assumes nothing.
 use native.Mathlib.Omega.{arith}
 use Rattle.pack.proofs.Written.{cell-bytes-le}
-use Rattle.pack_writer.proofs.Laying.{coordinates-told, packet-laid}
+use Rattle.pack_writer.proofs.Laying.{third-fits, coordinates-told, packet-laid}
 use Rattle.pack_writer.proofs.writing.put_packet.Goals as goal
 
-pub overflow_mul-n : goal.overflow_mul-n
-overflow_mul-n c =
-    omega (arith, cell-bytes-le _ c.args.cube.now c.args.n c.requires.2 c.requires.1)
+pub overflow_cast-c : goal.overflow_cast-c
+overflow_cast-c c = omega (arith, third-fits _ _ _ _ _ c.requires.0 c.requires.1 c.requires.4)
 
 pub put_bytes-requires : goal.put_bytes-requires
 put_bytes-requires c =
@@ -15,5 +14,5 @@ put_bytes-requires c =
 
 pub returns : goal.returns
 returns c =
-    packet-laid _ _ _ _ _ _ c.requires.0 c.requires.1 c.requires.4 (coordinates-told c.write_coordinates-cell.ensures (omega (arith, c.requires.3)))
+    packet-laid _ _ _ _ _ _ c.requires.4 (coordinates-told c.write_coordinates-cell.ensures (omega (arith, c.requires.3)))
     c.put_bytes.ensures

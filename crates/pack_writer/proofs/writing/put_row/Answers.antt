@@ -3,16 +3,10 @@ use native.Mathlib.Omega.{arith}
 use Rattle.pack_writer.proofs.Rows.{first-room, second-room, row-runs}
 use Rattle.pack_writer.proofs.writing.put_row.Goals as goal
 
-pub row_sent-requires : goal.row_sent-requires
-row_sent-requires c = (c.requires.0, c.requires.1)
-
 pub put_run-parity-requires : goal.put_run-parity-requires
 put_run-parity-requires c =
     let (same, few) = c.row_sent.ensures in
     (c.requires.0.valid, c.requires.1, omega arith, omega (arith, few), c.requires.2, first-room c.args.h c.args.q _ same _ _ c.requires.3)
-
-pub overflow_sub-sh : goal.overflow_sub-sh
-overflow_sub-sh c = omega (arith, c.requires.0.valid.l1_low)
 
 pub put_run-requires : goal.put_run-requires
 put_run-requires c =

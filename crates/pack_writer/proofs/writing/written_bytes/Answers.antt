@@ -1,19 +1,21 @@
 -- `pack_writer::writing::written_bytes` meets its contract. Assumes nothing.
-use Rattle.answer.specs.Values.{and_then, checked}
-use Rattle.answer.proofs.Values.{then-refused}
+use native.Mathlib.Omega.{arith}
+use Rattle.answer.specs.Values.{and_then, checked, value_of}
+use Rattle.answer.proofs.Values.{handed-on, then-refused, value-passed, value-refused}
 use Rattle.pack.specs.Packs.{air_size}
-use Rattle.pack.proofs.Sound.{sent-told, sent-refused}
-use Rattle.pack_writer.specs.Writing.{written_checked, size_value}
+use Rattle.pack_writer.specs.Writing.{written_checked}
 use Rattle.pack_writer.proofs.Outcomes.{sent-small}
 use Rattle.pack_writer.proofs.writing.written_bytes.Goals as goal
 
+pub returns-in_err-n : goal.returns-in_err-n
+unfolding written_checked
+returns-in_err-n c = handed-on _ _ _ c.from_residual.ensures.1 (then-refused _ _ _ (value-refused _ _ _ c.sent_cells.ensures c.in_err-n.was))
+
 pub size_of-requires : goal.size_of-requires
-size_of-requires c = sent-small _ _ (sent-told _ _ c.sent_cells.ensures _ c.in-Sent.is)
+size_of-requires c =
+    let (short, few, high) = sent-small _ _ (value-passed _ _ _ c.sent_cells.ensures c.in_ok-n.was) in
+    (omega arith, few, high)
 
-pub returns-in-Refused : goal.returns-in-Refused
-unfolding written_checked size_value
-returns-in-Refused c = then-refused _ _ _ (sent-refused _ _ c.sent_cells.ensures _ c.in-Refused.is)
-
-pub returns-in-Sent : goal.returns-in-Sent
-unfolding written_checked air_size size_value and_then checked
-returns-in-Sent c = rw (sent-told _ _ c.sent_cells.ensures _ c.in-Sent.is, c.size_of.ensures)
+pub returns : goal.returns
+unfolding written_checked air_size value_of and_then checked
+returns c = rw (value-passed _ _ _ c.sent_cells.ensures c.in_ok-n.was, c.size_of.ensures)

@@ -5,7 +5,7 @@ use native.Mathlib.Omega.{arith}
 use lib.ListN.{length, length-set}
 use Rattle.shape.specs.Shapes.{cells}
 use Rattle.shape.proofs.Geometry.{line-cell-lt}
-use Rattle.peel.proofs.Visiting.{flagged-none, flagged-more}
+use Rattle.peel.proofs.Visiting.{flagged-more}
 use Rattle.peel.proofs.on_line.flag_holes.Goals as goal
 use Rattle.peel.proofs.on_line.flag_holes.Goals.{In-loop-q}
 
@@ -17,53 +17,38 @@ last-cell : (c : In-loop-q) → c.args.line.first + c.loop-q.q + c.args.line.str
 last-cell c = line-cell-lt _ _ _ _ _ (c.requires.neighbours.each c.loop-q.q (omega arith)) c.requires.first_le_last.1
 
 flags_size : (c : In-loop-q) → length c.loop-q.flags ≡ cells c.args.sh
-flags_size c = c.loop-q.invariant.1.flags ∙ c.requires.valid.1
+flags_size c = c.loop-q.invariant.flags ∙ c.requires.valid.1
 
 small : (c : In-loop-q) → cells c.args.sh < 18446744073709551616
 small c = omega (arith, c.requires.valid.1)
 
-pub loop-q-init : goal.loop-q-init
-loop-q-init c = (omega arith, flagged-none)
-
 pub overflow_add-first : goal.overflow_add-first
 overflow_add-first c = omega (arith, first_cell (goal.at.overflow_add-first c).In-loop-q, small (goal.at.overflow_add-first c).In-loop-q)
 
-pub overflow_mul-stride : goal.overflow_mul-stride
-overflow_mul-stride c = omega (arith, first_cell (goal.at.overflow_mul-stride c).In-loop-q, small (goal.at.overflow_mul-stride c).In-loop-q)
+pub overflow_mul-line : goal.overflow_mul-line
+overflow_mul-line c = omega (arith, first_cell (goal.at.overflow_mul-line c).In-loop-q, small (goal.at.overflow_mul-line c).In-loop-q)
 
 pub overflow_add-first-in-loop-q : goal.overflow_add-first-in-loop-q
 overflow_add-first-in-loop-q c = omega (arith, first_cell (goal.at.overflow_add-first-in-loop-q c).In-loop-q, small (goal.at.overflow_add-first-in-loop-q c).In-loop-q)
 
 pub flag_hole-requires : goal.flag_hole-requires
-flag_hole-requires c = (c.requires.valid.0, first_cell (goal.at.flag_hole-requires c).In-loop-q, flags_size (goal.at.flag_hole-requires c).In-loop-q, c.loop-q.invariant.1.size ∙ c.requires.valid.2)
+flag_hole-requires c = (c.requires.valid.0, first_cell (goal.at.flag_hole-requires c).In-loop-q, flags_size (goal.at.flag_hole-requires c).In-loop-q)
+
+pub overflow_mul-line-in-loop-q : goal.overflow_mul-line-in-loop-q
+overflow_mul-line-in-loop-q c = omega (arith, last-cell (goal.at.overflow_mul-line-in-loop-q c).In-loop-q, small (goal.at.overflow_mul-line-in-loop-q c).In-loop-q)
 
 pub overflow_add-first-in-loop-q-2 : goal.overflow_add-first-in-loop-q-2
 overflow_add-first-in-loop-q-2 c = omega (arith, last-cell (goal.at.overflow_add-first-in-loop-q-2 c).In-loop-q, small (goal.at.overflow_add-first-in-loop-q-2 c).In-loop-q)
-
-pub overflow_mul-stride-in-loop-q : goal.overflow_mul-stride-in-loop-q
-overflow_mul-stride-in-loop-q c = omega (arith, last-cell (goal.at.overflow_mul-stride-in-loop-q c).In-loop-q, small (goal.at.overflow_mul-stride-in-loop-q c).In-loop-q)
-
-pub overflow_add-first-in-loop-q-3 : goal.overflow_add-first-in-loop-q-3
-overflow_add-first-in-loop-q-3 c = omega (arith, last-cell (goal.at.overflow_add-first-in-loop-q-3 c).In-loop-q, small (goal.at.overflow_add-first-in-loop-q-3 c).In-loop-q)
 
 pub flag_hole-requires-in-loop-q : goal.flag_hole-requires-in-loop-q
 flag_hole-requires-in-loop-q c = (
   c.requires.valid.0,
   last-cell (goal.at.flag_hole-requires-in-loop-q c).In-loop-q,
   ap length c.flag_hole.ensures.flags_after ∙ simp length-set (flags_size (goal.at.flag_hole-requires-in-loop-q c).In-loop-q),
-  c.flag_hole.ensures.woken.size ∙ c.loop-q.invariant.1.size ∙ c.requires.valid.2,
 )
-
-pub overflow_add-q : goal.overflow_add-q
-overflow_add-q c = omega (arith, c.loop-q.invariant.0)
 
 pub loop-q-preserved : goal.loop-q-preserved
-loop-q-preserved c = (
-  omega arith,
-  flagged-more c.loop-q.invariant.1 (omega (arith, first_cell (goal.at.loop-q-preserved c).In-loop-q, flags_size (goal.at.loop-q-preserved c).In-loop-q)) (omega (arith, last-cell (goal.at.loop-q-preserved c).In-loop-q, flags_size (goal.at.loop-q-preserved c).In-loop-q))
-      c.flag_hole.ensures.woken c.flag_hole-in-loop-q.ensures.woken
-      c.flag_hole.ensures.flags_after c.flag_hole-in-loop-q.ensures.flags_after,
-)
-
-pub returns : goal.returns
-returns c = let e : c.loop-q.q ≡ c.args.n = omega (arith, c.loop-q.invariant.0) in rw e at c.loop-q.invariant.1
+loop-q-preserved c =
+    let here = (goal.at.loop-q-preserved c).In-loop-q in
+    flagged-more c.loop-q.invariant (omega (arith, first_cell here, flags_size here)) (omega (arith, last-cell here, flags_size here))
+    c.flag_hole.ensures.woken c.flag_hole-in-loop-q.ensures.woken c.flag_hole.ensures.flags_after c.flag_hole-in-loop-q.ensures.flags_after

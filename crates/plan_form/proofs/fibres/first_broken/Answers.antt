@@ -1,13 +1,9 @@
 -- `plan_form::fibres::first_broken` meets its contract.
 use native.Mathlib.Omega.{arith}
-use mathlib.Core.Path.{◌≡◌}
 use Rattle.plan_form.specs.Entries.{closure_of, fibre_number}
 use Rattle.span.proofs.Decision.{decides-false, decides-true}
-use Rattle.plan_form.proofs.Walking.{fibres-none, disordered, walked_here, unlisted, read_more}
+use Rattle.plan_form.proofs.Walking.{disordered, walked_here, unlisted, read_more}
 use Rattle.plan_form.proofs.fibres.first_broken.Goals as goal
-
-pub loop-k-init : goal.loop-k-init
-loop-k-init c = (omega arith, fibres-none _ _ _)
 
 pub returns-then-not-in_order : goal.returns-then-not-in_order
 unfolding closure_of fibre_number
@@ -15,21 +11,15 @@ returns-then-not-in_order c =
     let l = c.loop-k in
     record {
       bound = omega arith;
-      before = l.invariant.1.kept;
-      here = λ _. disordered _ _ _ _ _ _ l.invariant.1 _ _ c.half-closure.ensures.0 c.half-number.ensures.0 (decides-false c.in_order.ensures c.if-not-in_order.true);
+      before = l.invariant.kept;
+      here = λ _. disordered _ _ _ _ _ _ l.invariant _ _ c.half-closure.ensures.0 c.half-number.ensures.0 (decides-false c.in_order.ensures c.if-not-in_order.true);
     }
 
 pub advance-q-requires : goal.advance-q-requires
 unfolding closure_of fibre_number
 advance-q-requires c =
-    let pre = c.requires in
     let l = c.loop-k in
-    (pre.0, walked_here _ _ _ _ _ _ l.invariant.1 _ _ c.half-closure.ensures.0 c.half-number.ensures.0 (decides-true c.in_order.ensures c.if-not-in_order.false))
-
-pub listed-requires : goal.listed-requires
-listed-requires c =
-    let pre = c.requires in
-    (pre.0, c.advance-q.ensures.0, c.advance-q.ensures.1, pre.2)
+    walked_here _ _ _ _ _ _ l.invariant _ _ c.half-closure.ensures.0 c.half-number.ensures.0 (decides-true c.in_order.ensures c.if-not-in_order.false)
 
 pub returns-then-not-listed : goal.returns-then-not-listed
 unfolding closure_of fibre_number
@@ -37,21 +27,12 @@ returns-then-not-listed c =
     let l = c.loop-k in
     record {
       bound = omega arith;
-      before = l.invariant.1.kept;
-      here = λ _. unlisted _ _ _ _ _ _ l.invariant.1 _ _ c.half-closure.ensures.0 c.half-number.ensures.0 (decides-false c.listed.ensures c.if-not-listed.true);
+      before = l.invariant.kept;
+      here = λ _. unlisted _ _ _ _ _ _ l.invariant _ _ c.half-closure.ensures.0 c.half-number.ensures.0 (decides-false c.listed.ensures c.if-not-listed.true);
     }
 
 pub loop-k-preserved : goal.loop-k-preserved
 unfolding closure_of fibre_number
 loop-k-preserved c =
-    let l = c.loop-k in (
-      omega arith,
-      read_more _ _ _ _ _ _ l.invariant.1 _ _ c.half-closure.ensures.0 c.half-number.ensures.0
-          (decides-true c.in_order.ensures c.if-not-in_order.false) (decides-true c.listed.ensures c.if-not-listed.false) _ c.advance-q.ensures.0,
-    )
-
-pub returns : goal.returns
-returns c =
-    let l = c.loop-k in
-    let all : l.k ≡ c.args.s.count = omega arith in
-    record { bound = omega arith; before = rw all at l.invariant.1.kept; here = λ less. absurd (omega arith) }
+    read_more _ _ _ _ _ _ c.loop-k.invariant _ _ c.half-closure.ensures.0 c.half-number.ensures.0
+    (decides-true c.in_order.ensures c.if-not-in_order.false) (decides-true c.listed.ensures c.if-not-listed.false) _ c.advance-q.ensures.0

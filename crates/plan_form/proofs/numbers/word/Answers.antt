@@ -1,7 +1,8 @@
--- `plan_form::numbers::word` meets its contract.
+-- `plan_form::numbers::word` meets its contract: std's number of four bytes is the word, and four bytes stay below 2^32.
 use native.Mathlib.Omega.{arith}
-use Rattle.plan_form.proofs.Halves.{word-halves}
+use Rattle.cursor.specs.Steps.{word}
 use Rattle.plan_form.proofs.numbers.word.Goals as goal
 
 pub returns : goal.returns
-returns c = (rw (c.half.ensures.0, c.half-2.ensures.0) (word-halves _ _), omega (arith, c.half.ensures, c.half-2.ensures))
+unfolding word
+returns c = (omega arith, omega arith)

@@ -1,35 +1,52 @@
--- `plan_form::reading::measure` meets its contract.
-use native.Mathlib.Omega.{arith}
-use Rattle.plan_form.specs.Form.{closures_in}
+-- `plan_form::reading::measure` meets its contract: section by section, each once those before it have passed.
 use mathlib.Core.Path.{refl}
-use Rattle.cursor.proofs.Steps.{count-short}
-use Rattle.plan_form.proofs.Judging.{measure-broken, closure-count-cut}
-use Rattle.plan_form.proofs.InFile.{count-place, closures-broken-in, closures-passed-in}
+use mathlib.Core.Logic.{inl, inr}
+use Rattle.plan_form.proofs.Judging.{refused-broken, handed-broken, closure-count-cut}
+use Rattle.plan_form.proofs.InFile.{closures-broken-at, fibre-count-cut-at, fibres-broken-at, fibres-kept-at, splice-count-cut-at, splices-broken-at, plan-measured-at}
 use Rattle.plan_form.proofs.reading.measure.Goals as goal
+use Rattle.plan_form.proofs.reading.measure.Goals.{then-first-s-via-then-first-s, then-first-s-via-else-first-s+then-end-file}
 
-pub returns-in_default : goal.returns-in_default
-returns-in_default c =
-    measure-broken _ _ _ _ _ _ c.broken.ensures refl (closure-count-cut _ _ (count-short _ _ _ c.count-read.ensures c.in_default.is))
+pub returns-in_err-c : goal.returns-in_err-c
+returns-in_err-c c =
+    handed-broken _ _ _ _ _ _ _ c.from_residual.ensures.1 c.in_err-c.ensures.1 refl (closure-count-cut _ _ c.in_err-c.ensures.0)
 
-pub overflow_sub-file : goal.overflow_sub-file
-overflow_sub-file c = omega (arith, count-place _ _ _ c.count-read.ensures _ _ c.in-Count.is)
+pub returns-then-first-c : goal.returns-then-first-c
+returns-then-first-c c =
+    refused-broken _ _ _ _ _ _ c.broken.ensures refl
+    (closures-broken-at _ _ _ _ _ c.in_ok-c.ensures c.whole.ensures c.first_broken-first.ensures c.if-first-c.true)
 
-pub first_broken-first-requires : goal.first_broken-first-requires
-first_broken-first-requires c = omega (arith, count-place _ _ _ c.count-read.ensures _ _ c.in-Count.is, c.least-whole.ensures.1)
+pub returns-in_err-f : goal.returns-in_err-f
+returns-in_err-f c =
+    handed-broken _ _ _ _ _ _ _ c.from_residual-in_err-f.ensures.1 c.in_err-f.ensures.1 refl
+    (fibre-count-cut-at _ _ _ _ _ c.in_ok-c.ensures c.whole.ensures c.first_broken-first.ensures c.if-first-c.false c.in_err-f.ensures.0)
 
-pub returns-then-first-count : goal.returns-then-first-count
-unfolding closures_in
-returns-then-first-count c =
-    let (room, same, behind) = count-place _ _ _ c.count-read.ensures _ _ c.in-Count.is in
-    measure-broken _ _ _ _ _ _ c.broken-then-first-count.ensures (omega arith)
-    (closures-broken-in _ _ _ _ _ (omega arith) same (omega arith) c.least-whole.ensures c.first_broken-first.ensures c.if-first-count.true)
+pub returns-then-first-f : goal.returns-then-first-f
+returns-then-first-f c =
+    refused-broken _ _ _ _ _ _ c.broken-then-first-f.ensures refl
+    (fibres-broken-at _ _ _ _ _ c.in_ok-c.ensures c.whole.ensures c.first_broken-first.ensures c.if-first-c.false
+    _ _ _ _ c.in_ok-f.ensures c.whole-2.ensures c.first_broken-first-2.ensures c.if-first-f.true)
 
-pub measure_fibres-requires : goal.measure_fibres-requires
-unfolding closures_in
-measure_fibres-requires c =
-    let (room, same, behind) = count-place _ _ _ c.count-read.ensures _ _ c.in-Count.is in
-    let (before, fits) = closures-passed-in _ _ _ _ _ (omega arith) same (omega arith) c.least-whole.ensures c.first_broken-first.ensures (omega arith) in
-    (omega arith, same, fits, before)
+pub returns-in_err-s : goal.returns-in_err-s
+returns-in_err-s c =
+    handed-broken _ _ _ _ _ _ _ c.from_residual-in_err-s.ensures.1 c.in_err-s.ensures.1 refl
+    (splice-count-cut-at _ _ _ _ _ c.in_ok-c.ensures c.whole.ensures c.first_broken-first.ensures c.if-first-c.false
+    _ _ _ _ c.in_ok-f.ensures c.whole-2.ensures c.first_broken-first-2.ensures c.if-first-f.false c.in_err-s.ensures.0)
+
+pub first_broken-first-requires-3 : goal.first_broken-first-requires-3
+first_broken-first-requires-3 c =
+    fibres-kept-at _ _ _ _ _ c.in_ok-c.ensures c.whole.ensures c.first_broken-first.ensures c.if-first-c.false
+    _ _ _ _ c.in_ok-f.ensures c.whole-2.ensures c.first_broken-first-2.ensures c.if-first-f.false
+
+pub returns-then-first-s : goal.returns-then-first-s
+returns-then-first-s c =
+    refused-broken _ _ _ _ _ _ c.broken-then-first-s.ensures refl
+    (splices-broken-at _ _ _ _ _ c.in_ok-c.ensures c.whole.ensures c.first_broken-first.ensures c.if-first-c.false
+    _ _ _ _ c.in_ok-f.ensures c.whole-2.ensures c.first_broken-first-2.ensures c.if-first-f.false
+    _ _ _ _ c.in_ok-s.ensures c.whole-3.ensures c.first_broken-first-3.ensures
+    (elim c.then-first-s.branch [ then-first-s-via-then-first-s w ↦ inl w.if-first-s.true | then-first-s-via-else-first-s+then-end-file w ↦ inr w.if-end-file.true ]))
 
 pub returns : goal.returns
-returns c = c.measure_fibres.ensures
+returns c =
+    plan-measured-at _ _ _ _ _ c.in_ok-c.ensures c.whole.ensures c.first_broken-first.ensures c.if-first-c.false
+    _ _ _ _ c.in_ok-f.ensures c.whole-2.ensures c.first_broken-first-2.ensures c.if-first-f.false
+    _ _ _ _ c.in_ok-s.ensures c.whole-3.ensures c.first_broken-first-3.ensures c.if-first-s.false c.if-end-file.false

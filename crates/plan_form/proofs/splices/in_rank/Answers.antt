@@ -1,22 +1,12 @@
 -- `plan_form::splices::in_rank` meets its contract.
-use native.Mathlib.Omega.{arith}
-use Rattle.span.proofs.Decision.{decides-no, decides_eq}
+use Rattle.span.proofs.Decision.{decides_eq}
 use Rattle.plan_form.specs.Entries.{entries, closure_of}
 use Rattle.plan_form.proofs.splices.in_rank.Goals as goal
 
-pub returns-then-a-above : goal.returns-then-a-above
-returns-then-a-above c = decides-no (λ h. omega (arith, h.risen))
-
-pub returns-then-b-a : goal.returns-then-b-a
-returns-then-b-a c = decides-no (λ h. omega (arith, h.lower))
-
-pub returns-then-f-b : goal.returns-then-f-b
-returns-then-f-b c = decides-no (λ h. omega (arith, h.fibres))
-
-pub returns : goal.returns
-unfolding closure_of
-returns c =
+pub returns-then-b-count : goal.returns-then-b-count
+returns-then-b-count c =
     let a = c.args in
-    let F = entries a.fibres.now a.f.at in
-    rw (c.half.ensures.0, c.half-2.ensures.0)
-    (decides_eq (closure_of F a.a) (closure_of F a.b) (λ h. h.same_closure) (λ e. record { risen = omega arith; lower = omega arith; fibres = omega arith; same_closure = e }))
+    let F = entries a.fibres.now.bytes.now a.fibres.now.s.at in
+    let (risen, lower, fibres) = c.if-b-count.true in
+    rw (c.closure.ensures.0, c.closure-then-b-count.ensures.0)
+    (decides_eq (closure_of F a.a) (closure_of F a.b) (λ h. h.same_closure) (λ e. record { risen = risen; lower = lower; fibres = fibres; same_closure = e }))

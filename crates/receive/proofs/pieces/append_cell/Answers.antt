@@ -8,6 +8,6 @@ pub returns-then-flags-m-eq1 : goal.returns-then-flags-m-eq1
 unfolding hole_text
 returns-then-flags-m-eq1 c = rw (eq-eqb _ _ c.if-flags-m-eq1.true) c.append_hole.ensures
 
-pub returns : goal.returns
+pub returns-else-flags-m-eq1 : goal.returns-else-flags-m-eq1
 unfolding hole_text
-returns c = rw (ne_eqb _ _ c.if-flags-m-eq1.false) (append-nothing _ _ c.requires.2)
+returns-else-flags-m-eq1 c = rw (ne_eqb _ _ c.if-flags-m-eq1.false) (append-nothing _ _ c.requires.2)

@@ -1,12 +1,11 @@
 -- `receive::receiving::outcome_of` meets its contract. Assumes nothing.
-use Rattle.receive.proofs.Endings.{ended-refused, ended-left, ended-file}
+use Rattle.receiver.specs.Receive.{received_value, received_counts}
+use Rattle.receive.proofs.Endings.{ended-refused}
 use Rattle.receive.proofs.receiving.outcome_of.Goals as goal
 
-pub returns-in-Refused : goal.returns-in-Refused
-returns-in-Refused c = ended-refused _ _ _ _ _ c.in-Refused.is c.number.ensures
+pub returns-in-Err : goal.returns-in-Err
+returns-in-Err c = ended-refused _ _ _ _ c.in-Err.is c.number.ensures
 
-pub returns-in-Left : goal.returns-in-Left
-returns-in-Left c = ended-left _ _ _ _ c.in-Left.is
-
-pub returns-in-File : goal.returns-in-File
-returns-in-File c = ended-file _ _ _ _ c.in-File.is
+pub returns-in-Ok : goal.returns-in-Ok
+unfolding received_value received_counts
+returns-in-Ok c = rw c.in-Ok.is c.came_of.ensures

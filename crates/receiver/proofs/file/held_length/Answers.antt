@@ -10,12 +10,9 @@ returns c =
     let copy = read_told _ _ _ _ _ _ _ _ c.requires.0 c.requires.1 c.requires.2 (omega arith) c.read_data.ensures in
     omega (
       arith,
+      c.from_le_bytes.ensures,
       copy.copied 0 (omega arith),
       copy.copied 1 (omega arith),
       copy.copied 2 (omega arith),
       copy.copied 3 (omega arith),
-      c.wide-4.ensures.0,
-      c.wide-3.ensures.0,
-      c.wide-2.ensures.0,
-      c.wide.ensures.0,
     )

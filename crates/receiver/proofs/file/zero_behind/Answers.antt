@@ -2,10 +2,10 @@
 use Rattle.receiver.proofs.HeldFile.{zero-told, zero-answered}
 use Rattle.receiver.proofs.file.zero_behind.Goals as goal
 
-pub returns-in-Zero : goal.returns-in-Zero
-returns-in-Zero c =
-    zero-told _ _ _ c.requires.0 c.requires.1 _ c.is_data_zero.ensures _ c.in-Zero.is
+pub returns-in-Ok : goal.returns-in-Ok
+returns-in-Ok c =
+    zero-told _ _ _ c.requires.0 c.requires.1 _ c.is_data_zero.ensures _ c.in-Ok.is
 
-pub returns-in-Refused : goal.returns-in-Refused
-returns-in-Refused c =
-    zero-answered _ _ _ c.requires.0 c.requires.1 _ c.is_data_zero.ensures _ c.in-Refused.is
+pub returns-in-Err : goal.returns-in-Err
+returns-in-Err c =
+    zero-answered _ _ _ c.requires.0 c.requires.1 _ c.is_data_zero.ensures _ c.in-Err.is

@@ -1,11 +1,7 @@
 -- `place_firsts` goes from packet to packet as long as each is the first of its cell.
-use Prim.Native.Nat.{◌-◌}
 use Rattle.pack.specs.Packets.{source}
 use Rattle.receiver.specs.Inner.Placing.{Run}
 use Rattle.receiver.proofs.placing.place_firsts.Given as goal
 
 abbrev pub invariant-loop-i : goal.invariant-loop-i
-invariant-loop-i l = Run l.h (source l.air l.h l.s) l.s.count l.from l.i l.cube l.flags 0
-
-abbrev pub decreases-loop-i : goal.decreases-loop-i
-decreases-loop-i l = l.s.count - l.i
+invariant-loop-i g l = Run l.h (source l.air l.h l.s) l.s.count l.from l.i l.cube l.flags 0

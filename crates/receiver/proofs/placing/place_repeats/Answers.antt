@@ -21,15 +21,17 @@ loop-i-init c = run_none _ _ _ _ _ _ _ c.requires.high c.requires.marked
 
 pub place_repeat-requires : goal.place_repeat-requires
 place_repeat-requires c =
-    (c.requires.valid, c.requires.named c.loop-i.i c.loop-i-test.true, c.loop-i.invariant.marked)
+    (c.requires.valid, c.requires.named c.loop-i.i (omega arith), c.loop-i.invariant.marked)
 
 pub returns-then-not-place_repeat : goal.returns-then-not-place_repeat
 returns-then-not-place_repeat c = ((left (goal.at.returns-then-not-place_repeat c).Then-not-place_repeat).0, λ l. (left (goal.at.returns-then-not-place_repeat c).Then-not-place_repeat).1)
 
 pub loop-i-preserved : goal.loop-i-preserved
 loop-i-preserved c =
-    run_more _ _ _ _ _ _ _ _ _ _ c.loop-i.invariant c.loop-i-test.true
+    run_more _ _ _ _ _ _ _ _ _ _ c.loop-i.invariant (omega arith)
     (c.place_repeat.ensures.placed c.if-not-place_repeat.false)
 
 pub returns : goal.returns
-returns c = (c.loop-i.invariant, λ less. absurd (omega arith))
+returns c =
+    let all : c.loop-i.i ≡ c.args.s.count = omega (arith, c.loop-i.invariant.high) in
+    (rw all at c.loop-i.invariant, λ less. absurd (omega arith))

@@ -1,11 +1,7 @@
 -- `place_repeats` goes from packet to packet as long as each is a repeat.
-use Prim.Native.Nat.{◌-◌}
 use Rattle.pack.specs.Packets.{source}
 use Rattle.receiver.specs.Inner.Placing.{Run}
 use Rattle.receiver.proofs.placing.place_repeats.Given as goal
 
 abbrev pub invariant-loop-i : goal.invariant-loop-i
 invariant-loop-i l = Run l.h (source l.air l.h l.s) l.s.count l.from l.i l.cube l.flags 1
-
-abbrev pub decreases-loop-i : goal.decreases-loop-i
-decreases-loop-i l = l.s.count - l.i

@@ -5,13 +5,14 @@ use Prim.Native.Nat.{◌+◌}
 use native.Mathlib.Numerals.{add-one}
 use native.Mathlib.Omega.{arith}
 use lib.ListN.{length, get_or, set}
+use lib.Seq.{set-get_or}
 use borrow.Author.Tests.{eq-eqb, ne_eqb}
 use Rattle.shape.specs.Inner.Marks.{is_marked}
 use Rattle.shape.proofs.Marks.{RemarkedTo, remarked-none, remarked-flag, remarked-turn, remarked-all}
 use Rattle.stopping.specs.Stopping.{number}
 use Rattle.stopping.proofs.Number.{number-nil, number-le, number_in, number-out}
 use Rattle.receiver.proofs.placing.settle.Goals as goal
-use Rattle.receiver.proofs.placing.settle.Goals.{Joined-flags-m-eq3, then-flags-m-eq3, else-flags-m-eq3}
+use Rattle.receiver.proofs.placing.settle.Goals.{Joined-flag-eq3, then-flag-eq3, else-flag-eq3}
 
 -- one flag more counts where it is marked as the flags are by then
 counted-in : (v m : _) (fs gs : _) → RemarkedTo v m fs gs → get_or gs m 0 ≡ 3 → number (is_marked fs) (m + 1) ≡ number (is_marked fs) m + 1
@@ -25,42 +26,36 @@ counted-out v m fs gs r ne =
     ap (number (is_marked fs)) (add-one m) ∙ number-out (is_marked fs) m (sym (remarked-flag v fs m gs r) ∙ ne_eqb _ _ ne)
 
 turn :
-    (c : Joined-flags-m-eq3) →
-    ((get_or c.loop-m.flags c.loop-m.m 0 ≡ 3)
-    × (c.if-flags-m-eq3.flags ≡ set c.loop-m.flags c.loop-m.m 1))
-    ⊎ ((get_or c.loop-m.flags c.loop-m.m 0 ≢ 3)
-    × (c.if-flags-m-eq3.flags ≡ c.loop-m.flags))
-turn c = elim c.if-flags-m-eq3.branch [ then-flags-m-eq3 w ↦ inl (w.if-flags-m-eq3.true, w.flags-is) | else-flags-m-eq3 w ↦ inr (w.if-flags-m-eq3.false, w.flags-is) ]
+    (c : Joined-flag-eq3) →
+    ((get_or c.loop-flag.flags c.loop-flag.flag-index 0 ≡ 3)
+    × (c.if-flag-eq3.flags ≡ set c.loop-flag.flags c.loop-flag.flag-index 1))
+    ⊎ ((get_or c.loop-flag.flags c.loop-flag.flag-index 0 ≢ 3)
+    × (c.if-flag-eq3.flags ≡ c.loop-flag.flags))
+turn c = elim c.if-flag-eq3.branch [ then-flag-eq3 w ↦ inl (w.if-flag-eq3.true, w.flags-is) | else-flag-eq3 w ↦ inr (w.if-flag-eq3.false, w.flags-is ∙ set-get_or _ _ _) ]
 
-pub loop-m-init : goal.loop-m-init
-loop-m-init c = (omega arith, remarked-none 1 _, sym (number-nil _))
-
-pub bounds-flags-m : goal.bounds-flags-m
-bounds-flags-m c = omega (arith, c.loop-m.invariant.1.size)
-
-pub bounds-flags-m-then-flags-m-eq3 : goal.bounds-flags-m-then-flags-m-eq3
-bounds-flags-m-then-flags-m-eq3 c = omega (arith, c.loop-m.invariant.1.size)
+pub loop-flag-init : goal.loop-flag-init
+loop-flag-init c = (omega arith, remarked-none 1 _, sym (number-nil _))
 
 pub overflow_add-conflicts : goal.overflow_add-conflicts
 overflow_add-conflicts c =
-    let l = c.loop-m in
-    omega (arith, l.invariant.2, number-le (is_marked c.args.flags.now) l.m)
+    let l = c.loop-flag in
+    omega (arith, l.invariant.2, number-le (is_marked c.args.flags.now) l.flag-index)
 
-pub loop-m-preserved : goal.loop-m-preserved
-loop-m-preserved c =
-    let l = c.loop-m in (
+pub loop-flag-preserved : goal.loop-flag-preserved
+loop-flag-preserved c =
+    let l = c.loop-flag in (
       omega arith,
-      remarked-turn 1 _ _ _ _ l.invariant.1 (omega (arith, l.invariant.1.size)) (turn (goal.at.loop-m-preserved c).Joined-flags-m-eq3),
-      elim c.if-flags-m-eq3.branch [
-        | then-flags-m-eq3 w ↦ omega (arith, w.conflicts-is, l.invariant.2, counted-in 1 _ _ _ l.invariant.1 w.if-flags-m-eq3.true)
-        | else-flags-m-eq3 w ↦ omega (arith, w.conflicts-is, l.invariant.2, counted-out 1 _ _ _ l.invariant.1 w.if-flags-m-eq3.false)
+      remarked-turn 1 _ _ _ _ l.invariant.1 (omega (arith, l.invariant.1.size)) (turn (goal.at.loop-flag-preserved c).Joined-flag-eq3),
+      elim c.if-flag-eq3.branch [
+        | then-flag-eq3 w ↦ omega (arith, w.conflicts-is, l.invariant.2, counted-in 1 _ _ _ l.invariant.1 w.if-flag-eq3.true)
+        | else-flag-eq3 w ↦ omega (arith, w.conflicts-is, l.invariant.2, counted-out 1 _ _ _ l.invariant.1 w.if-flag-eq3.false)
       ],
     )
 
 pub returns : goal.returns
 returns c =
-    let e : c.loop-m.m ≡ length c.args.flags.now = omega (arith, c.loop-m.invariant.0) in
+    let e : c.loop-flag.flag-index ≡ length c.args.flags.now = omega (arith, c.loop-flag.invariant.0) in
     record {
-      remarked = remarked-all 1 _ _ (rw e at c.loop-m.invariant.1);
-      value = rw e at c.loop-m.invariant.2;
+      remarked = remarked-all 1 _ _ (rw e at c.loop-flag.invariant.1);
+      value = rw e at c.loop-flag.invariant.2;
     }

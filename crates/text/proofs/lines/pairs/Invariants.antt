@@ -1,12 +1,8 @@
 -- `text::lines::pairs` meets its contract: the differences so far are 0 exactly when the characters so far are alike.
-use Prim.Native.Nat.{◌-◌, ◌*◌, ◌≤◌}
 use Rattle.span.proofs.Joining.{Joined}
 use Rattle.text.specs.Inner.Lines.{Pair}
 use Rattle.text.proofs.Hexadecimal.{Alike}
 use Rattle.text.proofs.lines.pairs.Given as goal
 
 abbrev pub invariant-loop-i : goal.invariant-loop-i
-invariant-loop-i l = (l.i ≤ 3 * l.w - 3) × Pair l.text l.at × Joined (Alike l.text l.at) l.i l.differs
-
-abbrev pub decreases-loop-i : goal.decreases-loop-i
-decreases-loop-i l = 3 * l.w - l.i
+invariant-loop-i l = Pair l.text l.at × Joined (Alike l.text l.at) l.i l.differs

@@ -2,30 +2,24 @@
 use Rattle.text.proofs.Parts.{number-some, number-none, first-nothing, second-nothing, third-nothing, three-read}
 use Rattle.text.proofs.lines.three.Goals as goal
 
-pub returns-in_default : goal.returns-in_default
-returns-in_default c = first-nothing _ _ _ (number-none _ c.labelled-first.ensures c.in_default.is)
+pub returns-in_err-a : goal.returns-in_err-a
+returns-in_err-a c = rw c.from_residual.ensures (first-nothing _ _ _ (number-none _ c.labelled.ensures c.in_err-a.was))
 
-pub labelled-second-requires : goal.labelled-second-requires
-labelled-second-requires c =
-    (number-some _ _ _ c.labelled-first.ensures c.in-Number.is).inside
+pub returns-in_err-b : goal.returns-in_err-b
+returns-in_err-b c =
+    rw c.from_residual-in_err-b.ensures
+    (second-nothing _ _ _ _ _ (number-some _ _ _ c.labelled.ensures c.in_ok-a.was)
+    (number-none _ c.labelled-2.ensures c.in_err-b.was))
 
-pub returns-in_default-second : goal.returns-in_default-second
-returns-in_default-second c =
-    second-nothing _ _ _ _ _ (number-some _ _ _ c.labelled-first.ensures c.in-Number.is)
-    (number-none _ c.labelled-second.ensures c.in_default-second.is)
-
-pub labelled-third-requires : goal.labelled-third-requires
-labelled-third-requires c =
-    (number-some _ _ _ c.labelled-second.ensures c.in-Number-second.is).inside
-
-pub returns-in_default-third : goal.returns-in_default-third
-returns-in_default-third c =
-    third-nothing _ _ _ _ _ (number-some _ _ _ c.labelled-first.ensures c.in-Number.is) _ _
-    (number-some _ _ _ c.labelled-second.ensures c.in-Number-second.is)
-    (number-none _ c.labelled-third.ensures c.in_default-third.is)
+pub returns-in_err-c : goal.returns-in_err-c
+returns-in_err-c c =
+    rw c.from_residual-in_err-c.ensures
+    (third-nothing _ _ _ _ _ (number-some _ _ _ c.labelled.ensures c.in_ok-a.was) _ _
+    (number-some _ _ _ c.labelled-2.ensures c.in_ok-b.was)
+    (number-none _ c.labelled-3.ensures c.in_err-c.was))
 
 pub returns : goal.returns
 returns c =
-    three-read _ _ _ _ _ (number-some _ _ _ c.labelled-first.ensures c.in-Number.is) _ _
-    (number-some _ _ _ c.labelled-second.ensures c.in-Number-second.is) _ _
-    (number-some _ _ _ c.labelled-third.ensures c.in-Number-third.is)
+    three-read _ _ _ _ _ (number-some _ _ _ c.labelled.ensures c.in_ok-a.was) _ _
+    (number-some _ _ _ c.labelled-2.ensures c.in_ok-b.was) _ _
+    (number-some _ _ _ c.labelled-3.ensures c.in_ok-c.was)

@@ -1,28 +1,28 @@
 -- `text::numbers::digit` meets its contract.
-use mathlib.Core.Path.{refl, ◌∙◌}
+use mathlib.Core.Path.{◌≡◌, refl, ◌∙◌}
+use Prim.Native.Nat.{◌+◌}
 use native.Mathlib.Omega.{arith}
-use lib.ListN.{get_or-eq_default}
+use lib.ListN.{get_or, get_or-eq_default}
+use Rattle.text.specs.Inner.Numbers.{digit_found, digit_nothing}
 use Rattle.text.proofs.Standing.{cons-path, drop_head, drop-one}
 use Rattle.text.proofs.numbers.digit.Goals as goal
 
-pub returns-then-text-at : goal.returns-then-text-at
-returns-then-text-at c =
-    record {
-      digit = λ h. absurd (omega arith);
-      none = λ h. rw (drop_head c.args.text.now c.args.at, get_or-eq_default c.args.text.now 0 {n = c.args.at} (omega arith)) (omega arith);
-    }
-
-pub returns-then-c-lt48 : goal.returns-then-c-lt48
-returns-then-c-lt48 c =
+pub returns-in_err-c : goal.returns-in_err-c
+returns-in_err-c c =
     let a = c.args in
-    record { digit = λ h. absurd (omega arith); none = λ h. rw (drop_head a.text.now a.at) (omega arith) }
+    rw c.from_residual.ensures
+    (digit_nothing (rw (drop_head a.text.now a.at, get_or-eq_default a.text.now 0 {n = a.at} c.in_err-c.ensures.lookup.3) (omega arith)))
 
-pub returns-then-c-gt57 : goal.returns-then-c-gt57
-returns-then-c-gt57 c =
+pub returns-then-is_ascii_digit : goal.returns-then-is_ascii_digit
+returns-then-is_ascii_digit c =
     let a = c.args in
-    record { digit = λ h. absurd (omega arith); none = λ h. rw (drop_head a.text.now a.at) (omega arith) }
+    let (low, high) = c.if-is_ascii_digit.ensures.cases in
+    let (inside, value) = c.in_ok-c.ensures.lookup.3 in
+    let here : get_or a.text.now a.at 0 ≡ 48 + c.from.result = omega (arith, value 0, c.from.ensures) in
+    digit_found _ (omega (arith, c.from.ensures)) inside (drop-one a.text.now a.at inside ∙ cons-path here refl)
 
-pub returns : goal.returns
-returns c =
+pub returns-else-is_ascii_digit : goal.returns-else-is_ascii_digit
+returns-else-is_ascii_digit c =
     let a = c.args in
-    record { digit = λ h. (omega arith, drop-one a.text.now a.at (omega arith) ∙ cons-path (omega arith) refl); none = λ h. absurd (omega arith) }
+    let (inside, value) = c.in_ok-c.ensures.lookup.3 in
+    digit_nothing (rw (drop_head a.text.now a.at) (omega (arith, value 0, c.if-is_ascii_digit.ensures.cases)))

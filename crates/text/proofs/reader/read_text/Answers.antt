@@ -1,13 +1,11 @@
 -- `text::reader::read_text` meets its contract. Assumes nothing.
 use mathlib.Core.Path.{refl}
-use Rattle.answer.specs.Values.{answer_value, refusal}
+use Rattle.answer.proofs.Values.{handed-on}
 use Rattle.text.specs.Text.{read_broken}
-use Rattle.text.proofs.Decoding.{scanned-broken, scanned-whole}
+use Rattle.text.proofs.Decoding.{scanned-broken}
 use Rattle.text.proofs.reader.read_text.Goals as goal
 
-pub read_whole-requires : goal.read_whole-requires
-read_whole-requires c = scanned-whole _ _ c.scan.ensures c.in-Whole.is
-
-pub returns-in-Broken : goal.returns-in-Broken
-unfolding answer_value refusal
-returns-in-Broken c = read_broken _ (scanned-broken _ _ c.scan.ensures c.in-Broken.is) refl
+pub returns-in_err-s : goal.returns-in_err-s
+returns-in_err-s c =
+    let (n, value, broken) = scanned-broken _ _ c.scan.ensures c.in_err-s.was in
+    rw (handed-on _ _ _ c.from_residual.ensures.1 value) (read_broken n broken refl)

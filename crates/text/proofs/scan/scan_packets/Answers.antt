@@ -10,28 +10,20 @@ loop-at-init c = none_so_far _ _ _ c.requires
 pub returns-then-n-eq-MOST : goal.returns-then-n-eq-MOST
 returns-then-n-eq-MOST c = broken-so-far _ _ _ _ _ _ c.loop-at.invariant _ (omega arith) c.line_of.ensures (inl (omega arith))
 
-pub packet_line-line-requires : goal.packet_line-line-requires
-packet_line-line-requires c = let inv = c.loop-at.invariant in (inv.reached, inv.first.good.w_digits)
-
 pub returns-in_default : goal.returns-in_default
 returns-in_default c =
     broken-so-far _ _ _ _ _ _ c.loop-at.invariant _ (omega arith) c.line_of-in_default.ensures
-    (inr (packet-none _ c.packet_line-line.ensures c.in_default.is))
-
-pub inside_next-inside-requires : goal.inside_next-inside-requires
-inside_next-inside-requires c =
-    let inv = c.loop-at.invariant in
-    (omega (arith, inv.out.bound, inv.size), inv.most)
+    (inr (packet-none _ c.packet_line.ensures c.in_default.is))
 
 pub loop-at-smaller : goal.loop-at-smaller
 loop-at-smaller c =
-    let (past, inside) = line-ends _ _ _ _ _ _ c.loop-at.invariant _ _ _ _ _ c.packet_line-line.ensures c.in-Line.is in
+    let (past, inside) = line-ends _ _ _ _ _ _ c.loop-at.invariant _ _ _ _ _ c.packet_line.ensures c.in-Some.is in
     omega arith
 
 pub loop-at-preserved : goal.loop-at-preserved
 loop-at-preserved c =
     let inv = c.loop-at.invariant in
-    more-so-far _ _ _ _ _ _ inv _ _ _ _ _ _ (omega (arith, inv.most)) c.packet_line-line.ensures c.in-Line.is c.inside_next-inside.ensures
+    more-so-far _ _ _ _ _ _ inv _ _ _ _ _ _ (omega (arith, inv.most)) c.packet_line.ensures c.in-Some.is c.inside_next-inside.ensures
 
 pub returns : goal.returns
 returns c = whole-so-far _ _ _ _ _ _ c.loop-at.invariant (omega arith)

@@ -1,2 +1,0 @@
--- What only the crate's own functions promise each other, one file a module.
-pub mod Sizes
