@@ -1,10 +1,15 @@
-use Rattle.std.proofs.Common.{rules, ◌≡◌, ℕ, ◌+◌, ◌≤◌, ◌<◌, length, ◌-◌, ◌*◌, ◌/◌, ◌%◌, Bool, true, false, nat_eq, nat_lt, List, [], ◌∷◌, ◌++◌, slice_index_or, slice_set, bit_and, bit_or, Fits, w8, w32, w64, Bor, MutBor}
-use Rattle.span.specs.Span.{Copied}
-use Rattle.shape.specs.Shapes.{capacity}
-use Rattle.data.specs.Data.{IsCube, data_of, held_data}
-use Rattle.span.specs.Decision.{Decides}
+-- `data::reader::zero_from` goes piece by piece: where each was 00h all bytes are, and where one was not, that one is not.
+use native.Mathlib.Omega.{arith}
+use Rattle.std.proofs.Common.{rules, tests}
+use Rattle.data.proofs.Reading.{zeros-tested}
 use Rattle.data.proofs.reader.zero_from.Goals as goal
 
--- src/reader.rt:22:1
+pub over-requires : goal.over-requires
+over-requires c = (c.requires.0.valid, omega (arith, c.requires.1))
+
 pub returns : goal.returns
-returns c = ?
+returns c =
+    let start = c.over.ensures in
+    zeros-tested _ _ c.requires.0.valid _ _ _ _ _ _ c.requires.0.size c.requires.1 c.all.ensures.ran
+    (record { shape = start.0; ends = start.2; stands = λ l. start.3; low = λ l. omega arith; zeros = λ p low less. absurd (omega arith) })
+    (λ x q k. search (rules, tests)) (λ x q k. search (rules, tests))
