@@ -43,6 +43,7 @@ fn lines_right(cube: &[u8], reduction: u8, sh: Shape, axis: usize, from: usize, 
     requires { IsCube sh cube.now × IsAxis axis × Blocks sh axis from to }
     ensures { Decides (LinesRight reduction sh axis from to cube.now) result }
 {
+    // `from` is a line of the axis, so that this is never refused.
     let Ok(l) = shape::axis_line(sh, axis, from) else {
         return true;
     };

@@ -9,7 +9,8 @@ ghost use Rattle.shape.specs.Shapes.{Valid, IsAxis, within, lengths_fit, shape_c
 
 use answer::{Fault, Refusal};
 
-// Lengths of the three axes and the bytes of a cell (document 01: L1, L2, L3, W).
+// Lengths of the three axes and the bytes of a cell (document 01: L1, L2, L3, W). Any numbers, as C gives them; that they are a cube's is the fact `Valid`
+// and no type: a second struct of the same four numbers would double each one that holds a shape.
 #[derive(Clone, Copy, PartialEq, Eq, Debug)]
 pub struct Shape {
     pub l1: usize,
