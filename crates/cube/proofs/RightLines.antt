@@ -1,8 +1,8 @@
 -- The lines of an axis that are right, run by run; and a code cube is one whose three axes are right.
 use mathlib.Core.Path.{◌≡◌, sym, ◌∙◌}
 use mathlib.Core.List.{List}
-use Prim.Native.Nat.{ℕ, ◌+◌, ◌-◌, ◌*◌, ◌/◌, ◌%◌, ◌≤◌, ◌<◌}
-use native.Mathlib.Nat.{mod-lt, mod-one, mod_self, zero-mod, mul-mod_left, add-mod_right, mul_comm, div-add-mod', div-lt_iff_lt-mul}
+use Prim.Native.Nat.{ℕ, zero, suc, ◌+◌, ◌-◌, ◌*◌, ◌/◌, ◌%◌, ◌≤◌, ◌<◌}
+use native.Mathlib.Nat.{suc-mul, zero-mul, mod-lt, mod-one, mod_self, zero-mod, mul-mod_left, add-mod_right, mul_comm, div-add-mod', div-lt_iff_lt-mul}
 use native.Mathlib.Decide.{dec_lt}
 use native.Mathlib.Omega.{arith}
 use lib.ListN.{length, get_or}
@@ -31,6 +31,14 @@ module _ (r : ℕ) (sh : Shape) (axis : ℕ) (xs : List ℕ) where
         lines = λ m l over less.
             elim (dec_lt m k) [ yes below ↦ h.lines m l over below | no past ↦ h'.lines m l (omega arith) less ];
       }
+
+  -- stretches of k lines each, one behind the other
+  pub right-stretches : (n k : ℕ) → ((c : ℕ) → c < n → LinesRight r sh axis (c * k) (c * k + k) xs) → LinesRight r sh axis 0 (n * k) xs
+  right-stretches zero k h = rw (zero-mul k) (right-none 0)
+  right-stretches (suc n) k h =
+      let last = h n (omega arith) in
+      right-append 0 (n * k) (suc n * k) (right-stretches n k (λ c less. h c (omega arith)))
+      (right-fewer (n * k) (n * k) (suc n * k) (n * k + k) (omega arith) (omega (arith, suc-mul n k)) last)
 
   -- a run of codewords is a block of right lines
   pub right-block : (m : ℕ) (l : Line) → Begins sh axis m l

@@ -1,9 +1,9 @@
 // Whether a cube is a code cube: every line of every axis, in runs of neighbouring lines, axes 1 and 2 plane by plane, then axis 3.
-ghost use Rattle.std.specs.Prelude.{◌≤◌};
-ghost use Rattle.shape.specs.Shapes.{lines_of};
+ghost use Rattle.std.specs.Prelude.{◌<◌};
+ghost use Rattle.shape.specs.Shapes.{IsAxis, lines_of};
 ghost use Rattle.data.specs.Data.{IsCube};
 ghost use Rattle.cube.specs.Cube.{CodeCube};
-ghost use Rattle.cube.specs.Inner.Checker.{Blocks, LinesRight};
+ghost use Rattle.cube.specs.Inner.Checker.{Blocks, LinesRight, PlaneRight};
 ghost use Rattle.span.specs.Decision.{Decides};
 
 use line::Run;
@@ -14,36 +14,36 @@ pub(crate) fn all_right(cube: &[u8], reduction: u8, sh: Shape) -> bool
     requires { IsCube sh cube.now }
     ensures { Decides (CodeCube reduction sh cube.now) result }
 {
-    if !planes_right(cube, reduction, sh) {
-        return false;
-    }
-    lines_right(cube, reduction, sh, 3, 0, sh.l1 * sh.l2)
+    planes_right(cube, reduction, sh) && lines_right(cube, reduction, sh, 3, 0, sh.l1 * sh.l2)
 }
 
-// Axes 2 and 1, plane by plane while a plane is in the cache. Axis 2 comes first: its runs are long, and fetch the plane at full speed.
+// Axes 1 and 2, plane by plane while a plane is in the cache.
 fn planes_right(cube: &[u8], reduction: u8, sh: Shape) -> bool
     requires { IsCube sh cube.now }
     ensures { Decides (LinesRight reduction sh 1 0 (lines_of sh 1) cube.now × LinesRight reduction sh 2 0 (lines_of sh 2) cube.now) result }
 {
-    let Shape { l1, l2, l3, .. } = sh;
-    for c in 0..l3 {
-        let row = c * l2;
-        let column = c * l1;
-        if !lines_right(cube, reduction, sh, 2, column, column + l1) {
-            return false;
-        }
-        if !lines_right(cube, reduction, sh, 1, row, row + l2) {
-            return false;
-        }
-    }
-    true
+    (0..sh.l3).all(|c| plane_right(cube, reduction, sh, c))
 }
 
-// The lines m to m + stride - 1 of an axis lie side by side, so they are one run; the runs stand one behind the other.
+// The rows and columns of plane c. Axis 2 comes first: its runs are long, and fetch the plane at full speed.
+fn plane_right(cube: &[u8], reduction: u8, sh: Shape, c: usize) -> bool
+    requires { IsCube sh cube.now × (c < sh.l3) }
+    ensures { Decides (PlaneRight reduction sh c cube.now) result }
+{
+    let Shape { l1, l2, .. } = sh;
+    let row = c * l2;
+    let column = c * l1;
+    lines_right(cube, reduction, sh, 2, column, column + l1)
+        && lines_right(cube, reduction, sh, 1, row, row + l2)
+}
+
+// The lines m to m + stride - 1 of an axis lie side by side, so they are one run; the runs stand one behind the other. A run is written out here, as in
+// `peel`, `fill` and `mend`, each in its own width: a function of all four would be public, ask nothing of its caller, and test each product.
 fn lines_right(cube: &[u8], reduction: u8, sh: Shape, axis: usize, from: usize, to: usize) -> bool
-    requires { IsCube sh cube.now × (1 ≤ axis) × (axis ≤ 3) × Blocks sh axis from to }
+    requires { IsCube sh cube.now × IsAxis axis × Blocks sh axis from to }
     ensures { Decides (LinesRight reduction sh axis from to cube.now) result }
 {
+    // `from` is a line of the axis, so that this is never refused.
     let Ok(l) = shape::axis_line(sh, axis, from) else {
         return true;
     };

@@ -1,4 +1,5 @@
-// The encoder: the data rows with the parity of axis 3, then the parity of axes 2 and 1 plane by plane while a plane is in the cache.
+// The encoder: the data rows with the parity of axis 3, then the parity of axes 2 and 1 plane by plane while a plane is in the cache. The reduction byte is a
+// parameter: `encoded` and its laws are over each that is primitive.
 ghost use Rattle.std.specs.Prelude.{◌≡◌, ◌-◌, length, get_or};
 ghost use Rattle.field.specs.Field.{Primitive};
 ghost use Rattle.shape.specs.Shapes.{Valid, capacity};

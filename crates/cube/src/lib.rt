@@ -4,20 +4,19 @@
 mod checker;
 mod encoder;
 
-ghost use Rattle.std.specs.Prelude.{◌≡◌};
-ghost use Rattle.answer.specs.Values.{value_of, checked};
+ghost use Rattle.answer.specs.Values.{value_of};
 ghost use Rattle.field.specs.Field.{reduction};
-ghost use Rattle.data.specs.Calls.{cube_checked};
 ghost use Rattle.cube.specs.Calls.{EncodeOutcome, CompleteOutcome, CheckOutcome};
 
-use answer::{Fault, Refusal};
+use answer::Refusal;
+use data::{cube_fits, slices_fit};
 use shape::Shape;
 
 // Encodes a data string: leaves in `cube` the one code cube that has it.
 pub fn encode(data: &[u8], cube: &mut [u8], sh: Shape) -> Result<(), Refusal>
     ensures { EncodeOutcome reduction sh «data».now cube.old cube.new (value_of result) }
 {
-    data::slices_fit(sh, data.len(), cube.len())?;
+    slices_fit(sh, data.len(), cube.len())?;
     encoder::encode_cube(data, cube, field::reduction(), sh);
     Ok(())
 }
@@ -37,16 +36,4 @@ pub fn is_code_cube(cube: &[u8], sh: Shape) -> Result<bool, Refusal>
 {
     cube_fits(sh, cube.len())?;
     Ok(checker::all_right(cube, field::reduction(), sh))
-}
-
-// The checks 1 to 4 of a call that is lent a cube alone.
-fn cube_fits(sh: Shape, bytes: usize) -> Result<(), Refusal>
-    ensures { value_of result ≡ checked (cube_checked sh bytes) }
-{
-    let z = shape::measure(sh)?;
-    if bytes == z.bytes {
-        Ok(())
-    } else {
-        Err(Refusal::Plain(Fault::SliceLength))
-    }
 }

@@ -1,16 +1,17 @@
 -- The checks of the lent slices: they pass exactly where the slices have the lengths of a valid shape.
-use mathlib.Core.Path.{◌≡◌, sym, ap, subst, ◌∙◌}
-use mathlib.Core.Bool.{Bool, true}
+use mathlib.Core.Path.{◌≡◌, refl, sym, ap, subst, ◌∙◌}
+use mathlib.Core.Bool.{Bool, true, false}
 use Prim.Native.Nat.{ℕ, ◌+◌, ◌*◌, ◌≤◌}
 use lib.Dec.{eqb, leb}
 use borrow.Author.Tests.{eqb-true, eq-eqb, leb-true, le-leb}
-use Rattle.answer.specs.Values.{Checked, passes, check, and_then}
-use Rattle.answer.proofs.Values.{check-passed, then-passed}
+use Rattle.answer.specs.declared.Refusal.{Refusal}
+use Rattle.answer.specs.Values.{Checked, passes, fails, check, and_then, checked, refusal}
+use Rattle.answer.proofs.Values.{check-passed, then-passed, then-refused, passes-injective}
 use Rattle.shape.specs.declared.Shape.{Shape}
 use Rattle.shape.specs.declared.Sizes.{Sizes}
 use Rattle.shape.specs.Shapes.{Valid, cells, capacity, sizes, shape_checked}
 use Rattle.shape.proofs.Valid.{both-parts, both_true, shape-passed, valid-passes}
-use Rattle.data.specs.Calls.{slices_checked, cube_checked, read_checked, write_checked}
+use Rattle.data.specs.Calls.{slices_checked, cube_checked, cube_sized, read_checked, write_checked}
 
 -- a test of the sizes that passes is one of the sizes of a valid shape
 sizes-passed : (sh : Shape) (test : Sizes → Bool) → ◌≡◌ {A = Checked Unit} (and_then (shape_checked sh) (λ z. check (test z) 4 (passes tt))) (passes tt)
@@ -47,6 +48,46 @@ cube-checked-done sh n e =
 pub cube-done-checked : (sh : Shape) (n : ℕ) → Valid sh → n ≡ sh.w * cells sh → cube_checked sh n ≡ passes tt
 unfolding cube_checked sizes
 cube-done-checked sh n v q = passed-sizes sh _ v (eq-eqb _ _ q)
+
+-- what passes are the sizes of a valid shape
+pub cube-sized-done : (sh : Shape) (n : ℕ) (z : Sizes) → cube_sized sh n ≡ passes z → Valid sh × (n ≡ sh.w * cells sh) × (z ≡ sizes sh)
+unfolding cube_sized sizes
+cube-sized-done sh n z e =
+    let (y, fits, rest) = then-passed (shape_checked sh) _ z e in
+    let (v, same) = shape-passed sh y fits in
+    let (p, q) = check-passed (eqb n y.bytes) 4 (passes y) z rest in
+    (v, eqb-true n y.bytes p ∙ ap (λ (x : Sizes). x.bytes) same, sym (passes-injective y z q) ∙ same)
+
+-- what is asked behind the check of a cube
+test-then : (b : Bool) (z : Sizes) (next : Sizes → Checked Unit) → check b 4 (next z) ≡ and_then (check b 4 (passes z)) next
+unfolding check and_then
+test-then true z next = refl
+test-then false z next = refl
+
+sized-then : (c : Checked Sizes) (test : Sizes → Bool) (next : Sizes → Checked Unit)
+    → and_then c (λ z. check (test z) 4 (next z)) ≡ and_then (and_then c (λ z. check (test z) 4 (passes z))) next
+unfolding and_then
+sized-then (passes z) test next = test-then (test z) z next
+sized-then (fails n) test next = refl
+
+pub cube-sized-then : (sh : Shape) (n : ℕ) → cube_checked sh n ≡ and_then (cube_sized sh n) (λ z. passes tt)
+unfolding cube_checked cube_sized
+cube-sized-then sh n = sized-then (shape_checked sh) (λ z. eqb n z.bytes) (λ z. passes tt)
+
+pub read-sized-then : (sh : Shape) (bytes room from to n : ℕ)
+    → read_checked sh bytes room from to n ≡
+    and_then (cube_sized sh bytes) (λ z. check (leb (from + n) z.capacity) 4 (check (leb (to + n) room) 4 (passes tt)))
+unfolding read_checked cube_sized
+read-sized-then sh bytes room from to n = sized-then (shape_checked sh) (λ z. eqb bytes z.bytes) _
+
+-- so a call that answers nothing passes and refuses alike
+pub cube-sized-passed : (sh : Shape) (n : ℕ) (z : Sizes) → cube_sized sh n ≡ passes z → cube_checked sh n ≡ passes tt
+unfolding and_then
+cube-sized-passed sh n z e = cube-sized-then sh n ∙ rw e
+
+pub cube-sized-refused : (sh : Shape) (n : ℕ) (f : Refusal) → refusal {A = Sizes} f ≡ checked (cube_sized sh n)
+    → refusal {A = Unit} f ≡ checked (cube_checked sh n)
+cube-sized-refused sh n f e = rw (cube-sized-then sh n) (then-refused (cube_sized sh n) (λ z. passes tt) f e)
 
 pub read-checked-done : (sh : Shape) (bytes room from to n : ℕ) → read_checked sh bytes room from to n ≡ passes tt
     → Valid sh × (bytes ≡ sh.w * cells sh) × (from + n ≤ capacity sh) × (to + n ≤ room)

@@ -2,6 +2,7 @@
 use Rattle.std.specs.Prelude.{◌≡◌, Bool, List, ℕ, ◌+◌, ◌-◌, ◌≤◌, ◌<◌, eqb, leb, length}
 use Rattle.answer.specs.Values.{Value, gives, refused, Checked, passes, fails, check, and_then}
 use Rattle.shape.specs.declared.Shape.{Shape}
+use Rattle.shape.specs.declared.Sizes.{Sizes}
 use Rattle.span.specs.Span.{Copied, SetTo}
 use Rattle.span.specs.Decision.{Decides}
 use Rattle.shape.specs.Shapes.{both, capacity, shape_checked}
@@ -15,6 +16,10 @@ slices_checked sh data_length cube_length =
 -- The same checks where only a cube is lent.
 unfoldable pub cube_checked : Shape → ℕ → Checked Unit
 cube_checked sh cube_length = and_then (shape_checked sh) (λ z. check (eqb cube_length z.bytes) 4 (passes tt))
+
+-- The same checks where what passes answers the sizes of the cube.
+unfoldable pub cube_sized : Shape → ℕ → Checked Sizes
+cube_sized sh cube_length = and_then (shape_checked sh) (λ z. check (eqb cube_length z.bytes) 4 (passes z))
 
 -- The checks where n bytes of the data string from `from` on are read into a slice from `to` on: 4 also where these are not n bytes of the data
 -- string, or the slice has no room for them there.

@@ -8,10 +8,10 @@ mod writer;
 
 ghost use Rattle.std.specs.Prelude.{◌≡◌, ◌+◌, leb};
 ghost use Rattle.answer.specs.Values.{value_of, checked};
-ghost use Rattle.data.specs.Calls.{slices_checked, read_checked, ExtractOutcome, ReadOutcome, ZeroOutcome, WriteOutcome, SetOutcome};
+ghost use Rattle.data.specs.Calls.{slices_checked, cube_sized, read_checked, ExtractOutcome, ReadOutcome, ZeroOutcome, WriteOutcome, SetOutcome};
 
 use answer::{Fault, Refusal};
-use shape::Shape;
+use shape::{Shape, Sizes};
 
 // Takes the data string out of a cube.
 pub fn extract(cube: &[u8], data: &mut [u8], sh: Shape) -> Result<(), Refusal>
@@ -43,15 +43,13 @@ pub fn read_data(
 pub fn is_data_zero(cube: &[u8], sh: Shape, from: usize) -> Result<bool, Refusal>
     ensures { ZeroOutcome sh cube.now from (value_of result) }
 {
-    let z = shape::measure(sh)?;
-    if cube.len() != z.bytes {
-        return Err(Refusal::Plain(Fault::SliceLength));
-    }
+    let z = cube_fits(sh, cube.len())?;
     Ok(reader::zero_from(cube, sh, from, z.capacity))
 }
 
 // Copies n bytes of `src` from `from` on to the data string from byte `to` on, and keeps every other byte of the cube. Where the data string
-// has no n bytes there, or `src` has none from `from` on, the refusal is 4 too.
+// has no n bytes there, or `src` has none from `from` on, the refusal is 4 too. `read_data` the other way round: the slice that is written differs, and
+// with it all that is promised.
 pub fn write_data(
     src: &[u8],
     cube: &mut [u8],
@@ -71,10 +69,7 @@ pub fn write_data(
 pub fn set_data(cube: &mut [u8], sh: Shape, from: usize, value: u8) -> Result<(), Refusal>
     ensures { SetOutcome sh from value cube.old cube.new (value_of result) }
 {
-    let z = shape::measure(sh)?;
-    if cube.len() != z.bytes {
-        return Err(Refusal::Plain(Fault::SliceLength));
-    }
+    let z = cube_fits(sh, cube.len())?;
     writer::set_from(cube, sh, from, z.capacity, value);
     Ok(())
 }
@@ -91,6 +86,18 @@ pub fn slices_fit(sh: Shape, capacity: usize, bytes: usize) -> Result<(), Refusa
     }
 }
 
+// The checks 1 to 4 of a call that is lent a cube alone, with the sizes of its shape.
+pub fn cube_fits(sh: Shape, bytes: usize) -> Result<Sizes, Refusal>
+    ensures { value_of result ≡ checked (cube_sized sh bytes) }
+{
+    let z = shape::measure(sh)?;
+    if bytes == z.bytes {
+        Ok(z)
+    } else {
+        Err(Refusal::Plain(Fault::SliceLength))
+    }
+}
+
 // The checks of a call that copies n bytes between the data string, from `from` on, and a slice of `room` bytes, from `to` on.
 fn spans_fit(
     sh: Shape,
@@ -102,14 +109,15 @@ fn spans_fit(
 ) -> Result<(), Refusal>
     ensures { value_of result ≡ checked (read_checked sh bytes room from to n) }
 {
-    let z = shape::measure(sh)?;
-    if bytes != z.bytes || !inside(z.capacity, from, n) || !inside(room, to, n) {
+    let z = cube_fits(sh, bytes)?;
+    if !inside(z.capacity, from, n) || !inside(room, to, n) {
         return Err(Refusal::Plain(Fault::SliceLength));
     }
     Ok(())
 }
 
-// Whether n bytes from `at` on lie inside `len` bytes.
+// Whether n bytes from `at` on lie inside `len` bytes. Not span's `part`, which takes a slice: here are lengths alone, and the checks of the outcomes
+// name `leb`.
 fn inside(len: usize, at: usize, n: usize) -> bool
     ensures { result ≡ leb (at + n) len }
 {

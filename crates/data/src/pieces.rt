@@ -35,12 +35,8 @@ impl Iterator for Pieces {
             return None;
         }
         let len = next.len.min(end - q);
-        *self = Pieces {
-            sh,
-            q: q + len,
-            end,
-            next: next_row(sh, next),
-        };
+        self.q = q + len;
+        self.next = next_row(sh, next);
         Some(Piece {
             q,
             at: next.at,

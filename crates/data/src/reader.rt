@@ -23,10 +23,5 @@ pub(crate) fn zero_from(cube: &[u8], sh: Shape, from: usize, end: usize) -> bool
     requires { IsCube sh cube.now × (end ≡ capacity sh) }
     ensures { Decides ((q : ℕ) → from ≤ q → q < capacity sh → data_of sh cube.now q ≡ 0) result }
 {
-    for s in Pieces::over(sh, from, end) {
-        if !span::zeros(cube, s.at, s.len) {
-            return false;
-        }
-    }
-    true
+    Pieces::over(sh, from, end).all(|s| span::zeros(cube, s.at, s.len))
 }

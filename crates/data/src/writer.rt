@@ -7,7 +7,8 @@ ghost use Rattle.data.specs.Data.{IsCube, held_data, ParityKept};
 use crate::place::Pieces;
 use shape::Shape;
 
-// Copies n bytes of `src` from `from` on to the data string from byte `to` on, row by row.
+// Copies n bytes of `src` from `from` on to the data string from byte `to` on, row by row. The walk is that of `copy_data`; the slice that is written
+// is the other.
 pub(crate) fn put_data(src: &[u8], cube: &mut [u8], sh: Shape, from: usize, to: usize, n: usize)
     requires { IsCube sh cube.old × (to + n ≤ capacity sh) × (from + n ≤ length src.now) }
     ensures { Copied src.now from (held_data sh cube.old) to n (held_data sh cube.new) × ParityKept sh cube.old cube.new }

@@ -9,6 +9,7 @@ ghost use Rattle.erasures.specs.Scan.{places_read, scan_of};
 ghost use Rattle.erasures.specs.Erasures.{Places, Scanned, LineOutcome};
 
 use answer::{Fault, Refusal};
+use shape::flags::MISSING;
 use shape::{Line, Shape};
 
 // What a scan of a line tells: how many erasures were found, at most three, and how many places were read to find them (request P2: holes and
@@ -19,7 +20,8 @@ pub struct ScanCounts {
     pub read: usize,
 }
 
-// The missing cells of a line: how many, at most three, how many places were read, and the first and the last of them that misses a cell.
+// The missing cells of a line: how many, at most three, how many places were read, and the first and the last of them that misses a cell. The count
+// says whether there are such places: with none both are 0, as `LineOutcome` has it, and an Option of them would say the same a second time.
 #[derive(Clone, Copy, PartialEq, Eq, Debug)]
 pub struct MissingPlaces {
     pub count: usize,
@@ -42,7 +44,8 @@ pub fn scan(flags: &[u8], sh: Shape, axis: usize, line: usize) -> Result<ScanCou
     ensures { value_of result ≡ checked (scan_of flags.now sh axis line) }
 {
     let found = shape::axis_line(sh, axis, line)?;
-    if flags.len() != sh.l1 * sh.l2 * sh.l3 {
+    let z = shape::measure(sh)?;
+    if flags.len() != z.cells {
         return Err(Refusal::Plain(Fault::SliceLength));
     }
     let e = scan_line(flags, found);
@@ -82,7 +85,7 @@ fn look(flags: &[u8], line: Line) -> MissingPlaces
     let Line { first, stride, len } = line;
     let mut e = MissingPlaces { read: len, ..NONE };
     for i in 0..len {
-        if flags[first + stride * i] == 1 {
+        if flags[first + stride * i] == MISSING {
             if e.count == 0 {
                 e.first = i;
             }

@@ -59,6 +59,10 @@ data_cell sh n =
     both (ltb (n % sh.l1) (sh.l1 - 2))
     (both (ltb (n / sh.l1 % sh.l2) (sh.l2 - 2)) (ltb (n / (sh.l1 * sh.l2)) (sh.l3 - 2)))
 
+-- "An axis is 1, 2 or 3"
+abbrev pub IsAxis : ℕ → Type 0
+IsAxis axis = (1 ≤ axis) × (axis ≤ 3)
+
 -- "An axis is 1, 2 or 3; a line fixes the other two coordinates." A line of an axis by its first cell, the stride from cell to cell, and its
 -- length.
 pub data AxisLine (sh : Shape) : ℕ → ℕ → ℕ → ℕ → Type 0 where

@@ -5,11 +5,12 @@ pub mod flags;
 
 ghost use Rattle.std.specs.Prelude.{◌≡◌, ◌+◌, ◌*◌, ◌/◌, ◌%◌, ◌≤◌, ◌<◌, ltb};
 ghost use Rattle.answer.specs.Values.{value_of, checked, check, passes};
-ghost use Rattle.shape.specs.Shapes.{Valid, within, lengths_fit, shape_checked, line_in, line_of};
+ghost use Rattle.shape.specs.Shapes.{Valid, IsAxis, within, lengths_fit, shape_checked, line_in, line_of};
 
 use answer::{Fault, Refusal};
 
-// Lengths of the three axes and the bytes of a cell (document 01: L1, L2, L3, W).
+// Lengths of the three axes and the bytes of a cell (document 01: L1, L2, L3, W). Any numbers, as C gives them; that they are a cube's is the fact `Valid`
+// and no type: a second struct of the same four numbers would double each one that holds a shape.
 #[derive(Clone, Copy, PartialEq, Eq, Debug)]
 pub struct Shape {
     pub l1: usize,
@@ -84,11 +85,12 @@ pub fn axis_line(sh: Shape, axis: usize, m: usize) -> Result<Line, Refusal>
 
 // Line m of an axis of a valid shape.
 fn line_on(sh: Shape, axis: usize, m: usize) -> Result<Line, Refusal>
-    requires { Valid sh × (1 ≤ axis) × (axis ≤ 3) }
+    requires { Valid sh × IsAxis axis }
     ensures { value_of result ≡ checked (line_in sh axis m) }
 {
     let Shape { l1, l2, l3, .. } = sh;
-    // An axis stays a number: the C interface gives it, and `axis_line` has refused all but 1, 2 and 3.
+    // An axis stays a number: the C interface gives it, and `axis_line` has refused all but 1, 2 and 3. The design asks for a match on it here, which
+    // picks the stride.
     match axis {
         1 => line_at(l2 * l3, 1, l1, m),
         2 => line_at(l1 * l3, l1, l2, m),

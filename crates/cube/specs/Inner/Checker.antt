@@ -1,5 +1,5 @@
 -- What the check of a cube decides, axis by axis.
-use Rattle.std.specs.Prelude.{◌≡◌, List, ℕ, ◌%◌, ◌≤◌, ◌<◌}
+use Rattle.std.specs.Prelude.{◌≡◌, List, ℕ, ◌+◌, ◌*◌, ◌%◌, ◌≤◌, ◌<◌}
 use Rattle.answer.specs.Values.{passes}
 use Rattle.shape.specs.declared.Shape.{Shape}
 use Rattle.shape.specs.declared.Line.{Line}
@@ -19,3 +19,8 @@ pub record Blocks (sh : Shape) (axis from to : ℕ) : Type 0 where
   pub ends : to % stride_of sh axis ≡ 0
   pub ordered : from ≤ to
   pub within : to ≤ lines_of sh axis
+
+-- the lines of axes 1 and 2 in plane c are right in every layer
+pub record PlaneRight (r : ℕ) (sh : Shape) (c : ℕ) (xs : List ℕ) : Type 0 where
+  pub rows : LinesRight r sh 1 (c * sh.l2) (c * sh.l2 + sh.l2) xs
+  pub columns : LinesRight r sh 2 (c * sh.l1) (c * sh.l1 + sh.l1) xs

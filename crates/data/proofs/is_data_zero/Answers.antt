@@ -1,43 +1,31 @@
 -- `data::is_data_zero` meets its contract. Assumes nothing.
-use mathlib.Core.Path.{◌≡◌, ap, ◌∙◌}
-use borrow.Author.Tests.{ne_eqb}
-use Rattle.answer.specs.Refusals.{fault_number}
-use Rattle.answer.specs.Values.{passes, and_then, check, refusal, value_of}
-use Rattle.answer.proofs.Values.{then-refused, value-passed, value-refused}
+use mathlib.Core.Path.{◌≡◌, ap}
+use lib.ListN.{length}
+use Rattle.answer.specs.Values.{passes, value_of}
+use Rattle.answer.proofs.Values.{value-passed, value-refused}
 use Rattle.shape.specs.declared.Sizes.{Sizes}
-use Rattle.shape.specs.Shapes.{Valid, sizes, shape_checked}
-use Rattle.shape.proofs.Valid.{shape-passed}
-use Rattle.data.specs.Calls.{cube_checked, zero_done, zero_refused}
-use Rattle.data.proofs.Checks.{cube-done-checked}
+use Rattle.shape.specs.Shapes.{sizes}
+use Rattle.data.specs.Calls.{cube_sized, zero_done}
+use Rattle.data.proofs.Checks.{cube-sized-done, cube-sized-passed, cube-sized-refused}
 use Rattle.data.proofs.Outcomes.{zero-unfit}
 use Rattle.data.proofs.is_data_zero.Goals as goal
 use Rattle.data.proofs.is_data_zero.Goals.{In_ok-z}
 
--- the shape has passed, and what was measured are its sizes
-fits : (c : In_ok-z) → shape_checked c.args.sh ≡ passes c.in_ok-z.z
-fits c = value-passed _ _ _ c.measure.ensures c.in_ok-z.was
-
-sized : (c : In_ok-z) → Valid c.args.sh × (c.in_ok-z.z ≡ sizes c.args.sh)
-sized c = shape-passed _ _ (fits c)
+-- the checks have passed
+fits : (c : In_ok-z) → cube_sized c.args.sh (length c.args.cube.now) ≡ passes c.in_ok-z.z
+fits c = value-passed _ _ _ c.cube_fits.ensures c.in_ok-z.was
 
 pub returns-in_err-z : goal.returns-in_err-z
-unfolding cube_checked
 returns-in_err-z c =
-    zero-unfit _ _ _ _ (then-refused _ _ _ (value-refused _ _ _ c.measure.ensures c.in_err-z.was)) _
+    zero-unfit _ _ _ _ (cube-sized-refused _ _ _ (value-refused _ _ _ c.cube_fits.ensures c.in_err-z.was)) _
     c.from_residual.ensures.1
-
-pub returns-then-cube-z : goal.returns-then-cube-z
-unfolding cube_checked value_of refusal fault_number and_then check
-returns-then-cube-z c = zero_refused _ (rw (fits (goal.at.returns-then-cube-z c).In_ok-z, ne_eqb _ _ c.if-cube-z.true))
 
 pub zero_from-requires : goal.zero_from-requires
 unfolding sizes
 zero_from-requires c =
-    let (v, same) = sized (goal.at.zero_from-requires c).In_ok-z in
-    (record { valid = v; size = c.if-cube-z.false ∙ ap (λ (z : Sizes). z.bytes) same }, ap (λ (z : Sizes). z.capacity) same)
+    let (v, size, same) = cube-sized-done _ _ _ (fits (goal.at.zero_from-requires c).In_ok-z) in
+    (record { valid = v; size = size }, ap (λ (z : Sizes). z.capacity) same)
 
 pub returns : goal.returns
-unfolding value_of sizes
-returns c =
-    let (v, same) = sized (goal.at.returns c).In_ok-z in
-    zero_done _ (cube-done-checked _ _ v (c.if-cube-z.false ∙ ap (λ (z : Sizes). z.bytes) same)) c.zero_from.ensures
+unfolding value_of
+returns c = zero_done _ (cube-sized-passed _ _ _ (fits (goal.at.returns c).In_ok-z)) c.zero_from.ensures

@@ -10,7 +10,7 @@ use Rattle.erasures.specs.Scan.{places_read}
 use Rattle.erasures.proofs.Third.{read_none, read_more, read-ends}
 use Rattle.erasures.proofs.Scanning.{scanned-few, scanned-many, scanned-none, scanned-skip, scanned-first, scanned-next, scanned-three}
 use Rattle.erasures.proofs.look.Goals as goal
-use Rattle.erasures.proofs.look.Goals.{In-loop-i, Joined-e-eq0, then-e-eq0, else-e-eq0, then-flags-first-eq1+else-e-eq3, else-flags-first-eq1}
+use Rattle.erasures.proofs.look.Goals.{In-loop-i, Joined-e-eq0, then-e-eq0, else-e-eq0, then-flags-first-eq-MISSING+else-e-eq3, else-flags-first-eq-MISSING}
 
 -- the inner branch leaves the count
 counts : (c : Joined-e-eq0) → c.if-e-eq0.e.count ≡ c.loop-i.e.count
@@ -22,8 +22,8 @@ unfolding missing
 marked c =
     let inv = c.loop-i.invariant in
     elim c.if-e-eq0.branch [
-      | then-e-eq0 v ↦ rw v.e-is (scanned-first _ _ _ _ _ _ _ inv.scanned (eq-eqb _ _ c.if-flags-first-eq1.true) v.if-e-eq0.true)
-      | else-e-eq0 v ↦ rw v.e-is (scanned-next _ _ _ _ _ _ _ inv.scanned (eq-eqb _ _ c.if-flags-first-eq1.true) v.if-e-eq0.false inv.few)
+      | then-e-eq0 v ↦ rw v.e-is (scanned-first _ _ _ _ _ _ _ inv.scanned (eq-eqb _ _ c.if-flags-first-eq-MISSING.true) v.if-e-eq0.true)
+      | else-e-eq0 v ↦ rw v.e-is (scanned-next _ _ _ _ _ _ _ inv.scanned (eq-eqb _ _ c.if-flags-first-eq-MISSING.true) v.if-e-eq0.false inv.few)
     ]
 
 -- the next place is read
@@ -62,9 +62,9 @@ unfolding missing
 loop-i-preserved c =
     let inv = c.loop-i.invariant in
     let next = reads (goal.at.loop-i-preserved c).In-loop-i in
-    elim c.if-flags-first-eq1.branch [
-      | then-flags-first-eq1+else-e-eq3 w ↦
-          let here = eq-eqb _ _ w.if-flags-first-eq1.true in
+    elim c.if-flags-first-eq-MISSING.branch [
+      | then-flags-first-eq-MISSING+else-e-eq3 w ↦
+          let here = eq-eqb _ _ w.if-flags-first-eq-MISSING.true in
           rw w.e-is
           (elim w.if-e-eq0.branch [
             | then-e-eq0 v ↦
@@ -85,11 +85,11 @@ loop-i-preserved c =
                   whole = inv.whole;
                 })
           ])
-      | else-flags-first-eq1 w ↦
+      | else-flags-first-eq-MISSING w ↦
           rw w.e-is
           (record {
             few = inv.few;
-            scanned = scanned-skip _ _ _ _ _ _ _ inv.scanned (ne_eqb _ _ w.if-flags-first-eq1.false);
+            scanned = scanned-skip _ _ _ _ _ _ _ inv.scanned (ne_eqb _ _ w.if-flags-first-eq-MISSING.false);
             so_far = next;
             whole = inv.whole;
           })

@@ -19,7 +19,7 @@ returns-then-not-within c = rw (sym c.within.ensures ∙ c.if-not-within.true)
 pub line_on-requires : goal.line_on-requires
 line_on-requires c =
     let axis = within-parts 1 3 _ (axis-checked (goal.at.line_on-requires c).Else-not-within) in
-    ((shape-passed _ _ (value-passed _ _ _ c.measure.ensures c.in_ok-measure.was)).0, axis.0, axis.1)
+    ((shape-passed _ _ (value-passed _ _ _ c.measure.ensures c.in_ok-measure.was)).0, axis)
 
 pub returns-in_err-measure : goal.returns-in_err-measure
 unfolding line_of check

@@ -13,14 +13,14 @@ line-here : (c : In-Ok)
     → let a = c.args in
     Begins a.sh a.axis a.from c.in-Ok.l
 line-here c =
-    begins _ _ _ _ (value-passed _ _ _ c.axis_line.ensures c.in-Ok.is) c.requires.3.begins
+    begins _ _ _ _ (value-passed _ _ _ c.axis_line.ensures c.in-Ok.is) c.requires.2.begins
 
 -- no line is left
 pub returns-in_default : goal.returns-in_default
 returns-in_default c =
     let pre = c.requires in
-    let ended = lines-ended _ _ _ _ pre.0.valid pre.1 pre.2 (value-refused _ _ _ c.axis_line.ensures c.in_default.is) in
-    decides-yes (right-fewer _ _ _ _ _ _ _ _ (omega arith) (omega (arith, ended, pre.3.within)) (right-none _ _ _ _ c.args.from))
+    let ended = lines-ended _ _ _ _ pre.0.valid pre.1.0 pre.1.1 (value-refused _ _ _ c.axis_line.ensures c.in_default.is) in
+    decides-yes (right-fewer _ _ _ _ _ _ _ _ (omega arith) (omega (arith, ended, pre.2.within)) (right-none _ _ _ _ c.args.from))
 
 pub overflow_mul-run : goal.overflow_mul-run
 overflow_mul-run c = omega (arith, (line-here (goal.at.overflow_mul-run c).In-Ok).first_small)
@@ -34,7 +34,7 @@ overflow_mul-block-2 c =
     omega (arith, run_small _ _ _ here.inside, c.requires.0.valid.volume)
 
 pub overflow_sub-to : goal.overflow_sub-to
-overflow_sub-to c = c.requires.3.ordered
+overflow_sub-to c = c.requires.2.ordered
 
 pub nonzero_div-to : goal.nonzero_div-to
 nonzero_div-to c = (line-here (goal.at.nonzero_div-to c).In-Ok).some_stride
@@ -47,4 +47,4 @@ unfolding run_from
 returns c =
     let pre = c.requires in
     let found = value-passed _ _ _ c.axis_line.ensures c.in-Ok.is in
-    decides-map (rows-between _ _ _ _ _ _ _ found pre.0.size pre.3) (between-rows _ _ _ _ _ _ _ found pre.0.size pre.3) c.codewords.ensures
+    decides-map (rows-between _ _ _ _ _ _ _ found pre.0.size pre.2) (between-rows _ _ _ _ _ _ _ found pre.0.size pre.2) c.codewords.ensures

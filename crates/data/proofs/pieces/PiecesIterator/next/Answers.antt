@@ -6,8 +6,8 @@ use Rattle.data.specs.Inner.Place.{Standing}
 use Rattle.data.proofs.Placing.{standing-inside}
 use Rattle.data.proofs.pieces.PiecesIterator.next.Goals as goal
 
-pub next_row-requires : goal.next_row-requires
-next_row-requires c =
+pub next_row-self-requires : goal.next_row-self-requires
+next_row-self-requires c =
     let s = c.args.self.now in
     let h : Standing s.sh s.q s.next = c.requires c.if-end-q.false in
     let less : s.q < capacity s.sh = omega (arith, s.inside) in
