@@ -17,6 +17,7 @@ use Rattle.answer.proofs.Values.{refusal-gives}
 use Rattle.shape.specs.Shapes.{Valid, cells, stride_of, length_of, lines_of, first_of, line_of}
 use Rattle.data.specs.Data.{layer}
 use Rattle.cube.specs.Cube.{layer_line}
+use Rattle.shape.proofs.Axes.{lines-few}
 use Rattle.shape.proofs.Geometry.{outer_of, lines_of-outer, cells_outer, stride_of-pos, length_of-low, length_of-high, line-of, line-passed}
 use Rattle.line.specs.declared.Run.{Run}
 use Rattle.line.specs.Run.{line_at, Inside}
@@ -81,20 +82,6 @@ cell-before s n b k i pos lk li =
     let block : k / s < b = (div-lt_iff_lt-mul pos).1 lk in
     omega (arith, stretch-end (k / s) b (s * n) block, mod-lt k pos, mul-suc s i, mul-le-mul_left s li)
 
-pub lines-small : (sh : Shape) (axis : ℕ) → Valid sh → lines_of sh axis ≤ 268435456
-lines-small sh axis v =
-    let some : 1 ≤ length_of sh axis = omega (arith, length_of-low sh axis v) in
-    omega (
-      arith,
-      v.volume,
-      mul-le-mul_right (cells sh) v.w_low,
-      one-mul (cells sh),
-      lines_of-outer sh axis,
-      cells_outer sh axis,
-      mul-le-mul_right (stride_of sh axis) (mul-le-mul_left (outer_of sh axis) some),
-      mul-one (outer_of sh axis),
-    )
-
 -- ---- a block and its run
 
 -- the run of the stride lines from line l on
@@ -157,7 +144,7 @@ begins-block sh axis b v low high less =
       inside = record { some_place = some; few_places = length_of-high sh axis v; apart = omega arith; fits = fits };
       first_small = omega (arith, fits 0 some, v.volume);
       stride_small = omega (arith, fits 0 some, v.volume);
-      next_small = omega (arith, next, lines-small sh axis v);
+      next_small = omega (arith, next, lines-few sh axis v);
     }
 
 -- a line whose number is a multiple of the stride is the first of a block

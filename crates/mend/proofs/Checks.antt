@@ -11,7 +11,7 @@ use Rattle.answer.specs.Values.{passes, fails}
 use Rattle.answer.proofs.Values.{check-passed, then-passed, check-number, then-number, passes-number}
 use Rattle.shape.specs.declared.Shape.{Shape}
 use Rattle.shape.specs.declared.Sizes.{Sizes}
-use Rattle.shape.specs.Shapes.{Valid, both, within, cells, sizes, shape_checked}
+use Rattle.shape.specs.Shapes.{Valid, IsAxis, both, within, cells, sizes, shape_checked}
 use Rattle.shape.proofs.Valid.{both-parts, within-parts, shape-passed, shape-number}
 use Rattle.data.specs.Calls.{cube_checked}
 use Rattle.data.proofs.Checks.{cube-checked-done}
@@ -20,17 +20,15 @@ use Rattle.mend.specs.Mend.{axis_checked, whole_checked, mend_checked}
 -- one pass: the shape is valid, the axis is one of three, and the length is the cube's
 pub record AxisReady (sh : Shape) (axis n : ℕ) : Type 0 where
   pub valid : Valid sh
-  pub low : 1 ≤ axis
-  pub high : axis ≤ 3
+  pub on : IsAxis axis
   pub size : n ≡ sh.w * cells sh
 
 pub axis-mend-ready : (sh : Shape) (axis n : ℕ) → axis_checked sh axis n ≡ passes tt → AxisReady sh axis n
 unfolding axis_checked
 axis-mend-ready sh axis n e =
     let (on, rest) = check-passed (within 1 3 axis) 1 _ tt e in
-    let (low, high) = within-parts 1 3 axis on in
     let (v, size) = cube-checked-done sh n rest in
-    record { valid = v; low = low; high = high; size = size }
+    record { valid = v; on = within-parts 1 3 axis on; size = size }
 
 -- the whole call: the shape is valid, and both lengths are the cube's
 pub record MendReady (sh : Shape) (n k : ℕ) : Type 0 where

@@ -180,7 +180,7 @@ axis-outcome-determined (axis_refused m e p) (axis_done f q) = absurd (passes-fa
 axis-outcome-determined (axis_done e p) (axis_refused n f q) = absurd (passes-fails tt n (sym e ∙ f))
 axis-outcome-determined {r} {sh} {axis} {xs} {ys} {zs} (axis_done e p) (axis_done f q) =
     let ok = axis-mend-ready sh axis (length xs) e in
-    (refl, pass-determined sh ok.valid axis ok.low ok.high r xs ok.size ys zs p q)
+    (refl, pass-determined sh ok.valid axis ok.on.0 ok.on.1 r xs ok.size ys zs p q)
 
 pub outcome-determined : {r : ℕ} {sh : Shape} {xs fs before ys zs : List ℕ} {a b : Value Unit}
     → MendOutcome r sh xs fs before ys a → MendOutcome r sh xs fs before zs b → (a ≡ b) × (ys ≡ zs)

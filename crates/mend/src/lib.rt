@@ -44,10 +44,7 @@ fn check_axis(sh: Shape, axis: usize, cube_length: usize) -> Result<(), Refusal>
     if axis < 1 || 3 < axis {
         return Err(Refusal::Plain(Fault::Dimension));
     }
-    let z = shape::measure(sh)?;
-    if cube_length != z.bytes {
-        return Err(Refusal::Plain(Fault::SliceLength));
-    }
+    data::cube_fits(sh, cube_length)?;
     Ok(())
 }
 

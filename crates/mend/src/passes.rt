@@ -1,6 +1,7 @@
-// The passes over a cube.
-ghost use Rattle.std.specs.Prelude.{◌≡◌, ◌*◌, ◌≤◌, length};
-ghost use Rattle.shape.specs.Shapes.{Valid, cells};
+// The passes over a cube. The run of a line is written out in each, as in `cube`, `peel` and `fill`, in its own width: a function of all four would be
+// public, ask nothing of its caller, and test each product.
+ghost use Rattle.shape.specs.Shapes.{IsAxis};
+ghost use Rattle.data.specs.Data.{IsCube};
 ghost use Rattle.mend.specs.Mend.{Pass};
 
 use line::Run;
@@ -8,7 +9,7 @@ use shape::Shape;
 
 // The pass by axis 1 from one cube into another: each row is corrected as soon as it is copied, while it is in the cache.
 pub(crate) fn first_pass(cube: &[u8], second: &mut [u8], reduction: u8, sh: Shape)
-    requires { Valid sh × (length cube.now ≡ sh.w * cells sh) × (length second.old ≡ sh.w * cells sh) }
+    requires { IsCube sh cube.now × IsCube sh second.old }
     ensures { Pass reduction sh 1 cube.now second.new }
 {
     let w = sh.w;
@@ -29,7 +30,7 @@ pub(crate) fn first_pass(cube: &[u8], second: &mut [u8], reduction: u8, sh: Shap
 
 // Corrects every line of an axis. The lines m to m + stride - 1 lie side by side, so they are one run.
 pub(crate) fn pass(cube: &mut [u8], reduction: u8, sh: Shape, axis: usize)
-    requires { Valid sh × (length cube.old ≡ sh.w * cells sh) × (1 ≤ axis) × (axis ≤ 3) }
+    requires { IsCube sh cube.old × IsAxis axis }
     ensures { Pass reduction sh axis cube.old cube.new }
 {
     let w = sh.w;

@@ -12,6 +12,7 @@ use lib.Dec.{leb}
 use lib.ListN.{get_or, length, set, replicate, length-replicate, length-set}
 use Rattle.shape.specs.declared.Shape.{Shape}
 use Rattle.shape.specs.Shapes.{Valid, cells, stride_of, length_of, lines_of, first_of}
+use Rattle.shape.proofs.Axes.{lines-few}
 use Rattle.shape.proofs.Geometry.{line_at, line_on, line-through, on_line_lem, axis-cases}
 use Rattle.stopping.proofs.Stopping.{on_line-cong}
 use Rattle.shape.specs.Flags.{missing}
@@ -81,15 +82,6 @@ module _ (ms : List ℕ) (a m : ℕ) where
       ]
 
 -- ---- the three lines through a cell
-
-pub lines-few : (sh : Shape) (axis : ℕ) → Valid sh → lines_of sh axis ≤ 65025
-unfolding lines_of
-lines-few sh axis v = by (leb axis 1) (leb axis 2)
-  where
-    by : (b c : Bool) → cond b (sh.l2 * sh.l3) (cond c (sh.l1 * sh.l3) (sh.l1 * sh.l2)) ≤ 65025
-    by true c = area-le _ _ v.l2_high v.l3_high
-    by false true = area-le _ _ v.l1_high v.l3_high
-    by false false = area-le _ _ v.l1_high v.l2_high
 
 -- the mark of the line of an axis through cell n
 abbrev mark-through : Shape → ℕ → ℕ → ℕ

@@ -22,7 +22,8 @@ use Rattle.answer.specs.Values.{passes}
 use Rattle.shape.specs.declared.Line.{Line}
 use Rattle.peel.proofs.Reaching.{filled_none, filled-weaken, filled_next}
 use Rattle.peel.proofs.Together.{hole-or-not}
-use Rattle.peel.proofs.Awake.{keeps-refl, keeps-trans, lines-few, quiet_keeps}
+use Rattle.shape.proofs.Axes.{lines-few}
+use Rattle.peel.proofs.Awake.{keeps-refl, keeps-trans, quiet_keeps}
 
 -- ---- the holes of neighbouring lines filled, line after line
 

@@ -3,6 +3,7 @@ use Rattle.std.specs.Prelude.{Bool, false, cond, ℕ, ◌+◌, ◌-◌, ◌*◌,
 use Rattle.answer.specs.Values.{Checked, passes, check, and_then}
 use Rattle.shape.specs.declared.Shape.{Shape}
 use Rattle.shape.specs.declared.Sizes.{Sizes}
+use Rattle.shape.specs.declared.Axis.{Axis}
 use Rattle.shape.specs.declared.Line.{Line}
 
 -- "cells = L1 × L2 × L3"
@@ -83,6 +84,12 @@ length_of sh axis = cond (leb axis 1) sh.l1 (cond (leb axis 2) sh.l2 sh.l3)
 
 unfoldable pub lines_of : Shape → ℕ → ℕ
 lines_of sh axis = cond (leb axis 1) (sh.l2 * sh.l3) (cond (leb axis 2) (sh.l1 * sh.l3) (sh.l1 * sh.l2))
+
+-- An axis of a shape. A number that is no axis is refused as 1; the axis is asked first, then the shape.
+unfoldable pub axis_of : Shape → ℕ → Checked Axis
+axis_of sh axis =
+    check (within 1 3 axis) 1
+    (and_then (shape_checked sh) (λ z. passes (record { lines = lines_of sh axis; stride = stride_of sh axis; len = length_of sh axis })))
 
 -- the first cell of line m of an axis, lines counted by the cell number of their first cell
 unfoldable pub first_of : Shape → ℕ → ℕ → ℕ

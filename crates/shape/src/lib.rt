@@ -3,9 +3,9 @@
 
 pub mod flags;
 
-ghost use Rattle.std.specs.Prelude.{◌≡◌, ◌+◌, ◌*◌, ◌/◌, ◌%◌, ◌≤◌, ◌<◌, ltb};
-ghost use Rattle.answer.specs.Values.{value_of, checked, check, passes};
-ghost use Rattle.shape.specs.Shapes.{Valid, IsAxis, within, lengths_fit, shape_checked, line_in, line_of};
+ghost use Rattle.std.specs.Prelude.{◌≡◌};
+ghost use Rattle.answer.specs.Values.{value_of, checked};
+ghost use Rattle.shape.specs.Shapes.{within, lengths_fit, shape_checked, axis_of, line_of};
 
 use answer::{Fault, Refusal};
 
@@ -25,6 +25,14 @@ pub struct Sizes {
     pub cells: usize,
     pub bytes: usize,
     pub capacity: usize,
+}
+
+// An axis of a shape: how many lines it has, the stride from cell to cell of each, and their length.
+#[derive(Clone, Copy, PartialEq, Eq, Debug)]
+pub struct Axis {
+    pub lines: usize,
+    pub stride: usize,
+    pub len: usize,
 }
 
 // A line of an axis: its first cell, the stride from cell to cell, and its length.
@@ -72,38 +80,29 @@ fn within(low: usize, high: usize, n: usize) -> bool
     (low..=high).contains(&n)
 }
 
-// Line m of an axis, lines counted by the cell number of their first cell.
-pub fn axis_line(sh: Shape, axis: usize, m: usize) -> Result<Line, Refusal>
-    ensures { value_of result ≡ checked (line_of sh axis m) }
+// An axis of a shape.
+pub fn axis_of(sh: Shape, axis: usize) -> Result<Axis, Refusal>
+    ensures { value_of result ≡ checked (axis_of sh axis) }
 {
     if !within(1, 3, axis) {
         return Err(Refusal::Plain(Fault::Dimension));
     }
     measure(sh)?;
-    line_on(sh, axis, m)
-}
-
-// Line m of an axis of a valid shape.
-fn line_on(sh: Shape, axis: usize, m: usize) -> Result<Line, Refusal>
-    requires { Valid sh × IsAxis axis }
-    ensures { value_of result ≡ checked (line_in sh axis m) }
-{
     let Shape { l1, l2, l3, .. } = sh;
-    // An axis stays a number: the C interface gives it, and `axis_line` has refused all but 1, 2 and 3. The design asks for a match on it here, which
-    // picks the stride.
-    match axis {
-        1 => line_at(l2 * l3, 1, l1, m),
-        2 => line_at(l1 * l3, l1, l2, m),
-        _ => line_at(l1 * l2, l1 * l2, l3, m),
-    }
+    // An axis stays a number: the C interface gives it, and every other is refused. The design asks for this match, which picks the stride.
+    let (lines, stride, len) = match axis {
+        1 => (l2 * l3, 1, l1),
+        2 => (l1 * l3, l1, l2),
+        _ => (l1 * l2, l1 * l2, l3),
+    };
+    Ok(Axis { lines, stride, len })
 }
 
-// Line m of the axis that has so many lines, of this stride and length.
-fn line_at(lines: usize, stride: usize, len: usize, m: usize) -> Result<Line, Refusal>
-    requires { (lines ≤ 65025) × (0 < stride) × (stride ≤ 65025) × (len ≤ 255) }
-    ensures { value_of result ≡
-        checked (check (ltb m lines) 1 (passes (record { first = m / stride * (stride * len) + m % stride; stride = stride; len = len }))) }
+// Line m of an axis, lines counted by the cell number of their first cell.
+pub fn axis_line(sh: Shape, axis: usize, m: usize) -> Result<Line, Refusal>
+    ensures { value_of result ≡ checked (line_of sh axis m) }
 {
+    let Axis { lines, stride, len } = axis_of(sh, axis)?;
     if lines <= m {
         return Err(Refusal::Plain(Fault::Dimension));
     }

@@ -56,18 +56,18 @@ pub returns-in_err-check : goal.returns-in_err-check
 returns-in_err-check c = mend-unfit _ _ _ _ _ _ _ _ c.check.ensures c.in_err-check.was c.from_residual.ensures.1
 
 pub first_pass-requires : goal.first_pass-requires
-first_pass-requires c = let ok = mend-ready-here (goal.at.first_pass-requires c).In_ok-check in (ok.valid, ok.size, ok.room)
+first_pass-requires c = let ok = mend-ready-here (goal.at.first_pass-requires c).In_ok-check in (record { valid = ok.valid; size = ok.size }, record { valid = ok.valid; size = ok.room })
 
 pub pass-requires : goal.pass-requires
 pass-requires c =
     let ok = mend-ready-here (goal.at.pass-requires c).In_ok-check in
-    (ok.valid, c.first_pass.auto.second ∙ ok.room, omega arith, omega arith)
+    (record { valid = ok.valid; size = c.first_pass.auto.second ∙ ok.room }, (omega arith, omega arith))
 
 pub pass-requires-2 : goal.pass-requires-2
 pass-requires-2 c =
     let ok = mend-ready-here (goal.at.pass-requires-2 c).In_ok-check in
     let first = c.first_pass in
-    (ok.valid, c.pass.auto.cube ∙ first.auto.second ∙ ok.room, omega arith, omega arith)
+    (record { valid = ok.valid; size = c.pass.auto.cube ∙ first.auto.second ∙ ok.room }, (omega arith, omega arith))
 
 pub returns-then-unwrap_or : goal.returns-then-unwrap_or
 unfolding value_of

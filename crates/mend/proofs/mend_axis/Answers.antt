@@ -13,7 +13,7 @@ returns-in_err-check_axis c =
 pub pass-requires : goal.pass-requires
 pass-requires c =
     let ok = axis-mend-ready _ _ _ (value-passed _ _ _ c.check_axis.ensures c.in_ok-check_axis.was) in
-    (ok.valid, ok.size, ok.low, ok.high)
+    (record { valid = ok.valid; size = ok.size }, ok.on)
 
 pub returns : goal.returns
 unfolding value_of

@@ -2,13 +2,13 @@
 use native.Mathlib.Omega.{arith}
 use Rattle.shape.specs.Shapes.{lines_of}
 use Rattle.span.proofs.Decision.{decides-no, decides-false, decides-true, decides-map}
-use Rattle.cube.proofs.AxisRuns.{lines-small}
+use Rattle.shape.proofs.Axes.{lines-few}
 use Rattle.cube.proofs.RightLines.{code-axis, axes-code, axis3-blocks}
 use Rattle.cube.proofs.checker.all_right.Goals as goal
 
 pub overflow_mul-sh : goal.overflow_mul-sh
 overflow_mul-sh c =
-    omega (arith, (axis3-blocks c.args.sh).within, lines-small _ 3 c.requires.valid)
+    omega (arith, (axis3-blocks c.args.sh).within, lines-few _ 3 c.requires.valid)
 
 pub lines_right-requires : goal.lines_right-requires
 lines_right-requires c =

@@ -18,9 +18,9 @@ line-here c =
 
 pub returns : goal.returns
 returns c =
-    let pre = c.requires in
-    through-all _ _ _ _ _ _ pre.0
-    (lines-ended _ _ _ _ pre.0 pre.2 pre.3 (value-refused _ _ _ c.axis_line.ensures c.in_default.is))
+    let (pre, on) = c.requires in
+    through-all _ _ _ _ _ _ pre.valid
+    (lines-ended _ _ _ _ pre.valid on.0 on.1 (value-refused _ _ _ c.axis_line.ensures c.in_default.is))
     c.loop-l.invariant.2
 
 pub overflow_mul-run : goal.overflow_mul-run
@@ -44,5 +44,5 @@ loop-l-preserved c =
     let here = line-here (goal.at.loop-l-preserved c).In-Ok in
     let outcome = c.correct.ensures in
     let inv = c.loop-l.invariant in
-    let size = inv.2.size ∙ c.requires.1 in
+    let size = inv.2.size ∙ c.requires.0.size in
     (here.next_aligned, here.next, through-more _ _ _ _ _ _ here _ _ inv.2 (outcome.done (rw size here.inside)).1)
