@@ -1,9 +1,23 @@
 -- Answers that decide a statement, and calls that do their work exactly where one holds.
-use mathlib.Core.Path.{◌≡◌, refl, sym, ◌∙◌}
+use mathlib.Core.Path.{◌≡◌, refl, sym, subst, ◌∙◌}
 use mathlib.Core.Bool.{Bool, true, false, not, true≢false, false≢true}
-use Prim.Native.Nat.{ℕ, ◌≤◌}
+use mathlib.Core.List.{List}
+use Prim.Native.Nat.{ℕ, ◌+◌, ◌-◌, ◌≤◌, ◌<◌}
+use native.Mathlib.Omega.{arith}
 use lib.Dec.{leb, eqb}
+use lib.ListN.{length, get_or}
+use denote.Param.Members.{Mut}
 use borrow.Author.Tests.{leb-true, le-leb, eqb-true, eq-eqb, not-true, not-false}
+use Rattle.std.specs.Prelude.{Option}
+use Rattle.std.specs.declared.ops.Range.{Range}
+use Rattle.std.specs.Bool.{MatchBool}
+use Rattle.std.specs.Fn.{Called}
+use Rattle.std.specs.Iterator.{YieldsThen}
+use Rattle.std.specs.List.{AllWithin, HoldsAt, FoldsTo, range_with_len}
+use Rattle.std.specs.Option.{MatchOption}
+use Rattle.std.proofs.iter.Yields.{nat_range_steps}
+use Rattle.std.proofs.lemmas.Iterator.{YieldsList-from_range, cases_from_all}
+use Rattle.std.proofs.lemmas.List.FromFn.{length-range_with_len, get_or-range_with_len}
 use Rattle.span.specs.Decision.{Decides, Cases}
 
 pub decides-yes : {P : Type 0} → P → Decides P true
@@ -47,3 +61,31 @@ cases_done p d = record { done = λ q. d; refused = λ n. absurd (n p) }
 
 pub cases-refused : {P Done Refused : Type 0} → (P → ⊥) → Refused → Cases P Done Refused
 cases-refused n r = record { done = λ p. absurd (n p); refused = λ m. r }
+
+-- `all` over the numbers below n, by a closure whose answer decides P of its number
+pub decides_all : {F : Type 0} {g : Mut F (ℕ × Unit {0}) Bool} (n : ℕ) (u : Range ℕ) (f : F) (answer : Bool) (P : ℕ → Type 0)
+    → (xs : List ℕ) × (o : Option ℕ) × (j : F) × YieldsThen nat_range_steps (record { start = 0; end = n }) xs o u
+      × FoldsTo (λ p x q. Called g p (x, tt) true q) f xs j × MatchOption o (answer ≡ true) (λ x. (answer ≡ false) × ((h : F) × Called g j (x, tt) false h))
+    → ((x : ℕ) (b : Bool) (q : F) → Called g f (x, tt) b q → (q ≡ f) × Decides (P x) b)
+    → Decides ((k : ℕ) → k < n → P k) answer
+decides_all n u f answer P ran decided =
+    by answer
+    (cases_from_all u f answer P (λ x. P x → ⊥) ran (YieldsList-from_range 0 n n refl (omega arith))
+    (λ x q k. let d = decided x true q k in (d.0, d.1.yes_then refl))
+    (λ x q k. decides-false (decided x false q k).1 refl))
+  where
+    all : List ℕ
+    all = range_with_len 0 n
+
+    long : length all ≡ n
+    long = length-range_with_len 0 n
+
+    at : (k : ℕ) → k < n → get_or all k 0 ≡ k
+    at k l = omega (arith, get_or-range_with_len 0 n k 0 l)
+
+    by : (b : Bool) → MatchBool b (AllWithin P all 0 (length all)) ((k : ℕ) × (k < length all) × HoldsAt (λ x. P x → ⊥) all k)
+        → Decides ((k : ℕ) → k < n → P k) b
+    by true h = decides-yes (λ k l. subst P (at k l) (h k 0 (omega arith) (omega (arith, long))))
+    by false h =
+        let l : h.0 < n = omega (arith, long, h.1) in
+        decides-no (λ p. h.2 0 (subst P (sym (at h.0 l)) (p h.0 l)))
