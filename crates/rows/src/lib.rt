@@ -82,7 +82,7 @@ fn lanes(s: &[u8], reduction: u8, run: Run, gap: usize) -> bool
     for i in (0..run.len).rev() {
         sums.step(reduction, gather(s, run.first + run.stride * i, gap));
     }
-    sums.both_zero()
+    sums.all_zero(64)
 }
 
 // The 64 bytes from `at` on, `gap` bytes from one to the next.
