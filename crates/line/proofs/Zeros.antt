@@ -1,13 +1,12 @@
 -- All syndromes are 0 exactly when all lines are codewords.
 use mathlib.Core.Path.{sym, ◌∙◌}
 use mathlib.Core.List.{List}
-use Prim.Native.Nat.{ℕ, ◌≤◌, ◌<◌}
-use native.Mathlib.Omega.{arith}
-use Rattle.strip.specs.Strip.{BothZero}
+use Prim.Native.Nat.{ℕ, ◌<◌}
+use Rattle.strip.specs.Strip.{AllZero}
 use Rattle.line.specs.declared.Run.{Run}
 use Rattle.line.specs.Line.{Codeword}
 use Rattle.line.specs.Run.{line_at}
-use Rattle.line.specs.Inner.Block.{Syndromes, AllZero}
+use Rattle.line.specs.Inner.Block.{Syndromes}
 
 -- all lines are codewords exactly when all their syndromes are 0
 module _ {r : ℕ} {run : Run} {s s0 s1 : List ℕ} (sy : Syndromes r run s s0 s1) where
@@ -20,11 +19,3 @@ module _ {r : ℕ} {run : Run} {s s0 s1 : List ℕ} (sy : Syndromes r run s s0 s
       ((t : ℕ) → t < run.width → Codeword r (line_at s run t) run.len) → AllZero run.width s0 s1
   codewords-zeros w =
       record { first = λ t h. sy.first t h ∙ (w t h).first; second = λ t h. sy.second t h ∙ (w t h).second }
-
--- strips that begin with zeros
-pub zeros-both : {w : ℕ} {s0 s1 : List ℕ} → AllZero w s0 s1 → BothZero w s0 s1
-zeros-both z = record { first = λ t h l. z.first t h; second = λ t h l. z.second t h }
-
-pub both-zeros : {w n : ℕ} {s0 s1 : List ℕ} → w ≤ n → w ≤ 64 → BothZero n s0 s1 → AllZero w s0 s1
-both-zeros le few z =
-    record { first = λ t h. z.first t (omega arith) (omega arith); second = λ t h. z.second t (omega arith) (omega arith) }

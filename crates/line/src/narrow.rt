@@ -27,7 +27,7 @@ pub(crate) fn codewords(s: &[u8], reduction: u8, run: Run) -> bool
     ensures { Decides ((t : ℕ) → t < run.width → Codeword reduction (line_at s.now run t) run.len) result }
 {
     if roomy(s.len(), run) {
-        strips::syndromes(s, reduction, run).both_zero_below(run.width as u8)
+        strips::syndromes(s, reduction, run).all_zero(run.width)
     } else {
         wide::codewords::<64>(s, reduction, run)
     }

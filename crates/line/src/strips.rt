@@ -22,7 +22,7 @@ pub(crate) fn codewords(s: &[u8], reduction: u8, run: Run) -> bool
     requires { (Inside run (length s.now)) × (run.width ≡ 64) }
     ensures { Decides ((t : ℕ) → t < run.width → Codeword reduction (line_at s.now run t) run.len) result }
 {
-    syndromes(s, reduction, run).both_zero()
+    syndromes(s, reduction, run).all_zero(64)
 }
 
 // Both syndromes of each line, by Horner's rule from the far end. Where the run has fewer than 64 lines, those behind them get some value.

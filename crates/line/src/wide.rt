@@ -5,7 +5,7 @@ ghost use Rattle.line.specs.Line.{Codeword};
 ghost use Rattle.line.specs.Run.{Inside, line_at};
 ghost use Rattle.span.specs.Decision.{Decides};
 ghost use Rattle.line.specs.Inner.Wide.{Room, Empty, Tails, One, Four};
-ghost use Rattle.line.specs.Inner.Block.{Syndromes, Combined, Combining, AllZero};
+ghost use Rattle.line.specs.Inner.Block.{Syndromes, Combined, Combining};
 
 use crate::{Erasures, Run};
 
@@ -26,7 +26,7 @@ pub(crate) fn codewords<const N: usize>(s: &[u8], reduction: u8, run: Run) -> bo
 {
     let mut sums: strip::Syndromes<N> = strip::Syndromes::zeros();
     syndromes(s, &mut sums, reduction, run);
-    all_zero(&sums, run.width)
+    sums.all_zero(run.width)
 }
 
 // Both syndromes of each line of a block, by Horner's rule from the far end; the sums come in as zeros.
@@ -148,16 +148,4 @@ pub(crate) fn combine<const N: usize>(
         s[at_j + t] = x ^ y;
         s[at_k + t] = y;
     }
-}
-
-// Whether both syndromes of each line are 0: the bytes are joined by or, so that no line costs a branch.
-fn all_zero<const N: usize>(sums: &strip::Syndromes<N>, width: usize) -> bool
-    requires { width ≤ N }
-    ensures { Decides (AllZero width sums.now.first sums.now.second) result }
-{
-    let mut any: u8 = 0;
-    for t in 0..width {
-        any |= sums.first[t] | sums.second[t];
-    }
-    any == 0
 }

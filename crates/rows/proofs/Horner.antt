@@ -4,7 +4,7 @@ use mathlib.Core.List.{List}
 use Prim.Native.Nat.{ℕ, ◌+◌, ◌*◌, ◌<◌}
 use lib.ListN.{length, get_or, replicate, get_or-replicate}
 use Rattle.field.specs.Field.{add, xtime}
-use Rattle.strip.specs.Strip.{Step, BothZero}
+use Rattle.strip.specs.Strip.{Step, AllZero}
 use Rattle.line.specs.declared.Run.{Run}
 use Rattle.line.specs.Inner.Wide.{tail0, tail1}
 use Rattle.line.proofs.Syndrome.{tail0-end, tail1-end, tail0-whole, tail1-whole}
@@ -51,16 +51,16 @@ lanes_step {r} {run} {gap} {next} {s} {a0} {a1} left fits bytes h g st e l =
 
 -- all syndromes are 0 exactly when all lines are codewords
 module _ {r : ℕ} {run : Run} {gap left : ℕ} {s s0 s1 : List ℕ} (h : Lanes r run gap left s s0 s1) (whole : left ≡ 0) where
-  pub zero-lanes : BothZero 64 s0 s1 → LanesRight r run gap s
+  pub zero-lanes : AllZero 64 s0 s1 → LanesRight r run gap s
   zero-lanes z u b =
       record {
-        first = sym (tail0-whole _ _) ∙ rw whole at (sym (h.first u b)) ∙ z.first u b b;
-        second = sym (tail1-whole _ _ _) ∙ rw whole at (sym (h.second u b)) ∙ z.second u b b;
+        first = sym (tail0-whole _ _) ∙ rw whole at (sym (h.first u b)) ∙ z.first u b;
+        second = sym (tail1-whole _ _ _) ∙ rw whole at (sym (h.second u b)) ∙ z.second u b;
       }
 
-  pub lanes-zero : LanesRight r run gap s → BothZero 64 s0 s1
+  pub lanes-zero : LanesRight r run gap s → AllZero 64 s0 s1
   lanes-zero c =
       record {
-        first = λ u b l. rw whole at (h.first u b) ∙ tail0-whole _ _ ∙ (c u b).first;
-        second = λ u b l. rw whole at (h.second u b) ∙ tail1-whole _ _ _ ∙ (c u b).second;
+        first = λ u b. rw whole at (h.first u b) ∙ tail0-whole _ _ ∙ (c u b).first;
+        second = λ u b. rw whole at (h.second u b) ∙ tail1-whole _ _ _ ∙ (c u b).second;
       }

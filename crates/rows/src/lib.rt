@@ -38,12 +38,7 @@ fn one_by_one(s: &[u8], reduction: u8, run: Run, gap: usize, count: usize) -> bo
     requires { (0 < count) × (run.first + gap * (count - 1) ≤ length s.now) }
     ensures { Decides (AllRows reduction run gap count s.now) result }
 {
-    for q in 0..count {
-        if !line::codewords(s, reduction, moved(run, gap * q)) {
-            return false;
-        }
-    }
-    true
+    (0..count).all(|q| line::codewords(s, reduction, moved(run, gap * q)))
 }
 
 // The last row is looked at by itself: where it lies inside, all rows do.
@@ -61,6 +56,7 @@ fn by_strips(s: &[u8], reduction: u8, run: Run, gap: usize, count: usize) -> boo
     ensures { Decides (RowsRight reduction run gap 0 count s.now) result }
 {
     let last = count - 64;
+    // No `all`: nothing is proved of one over steps, and of one over strips the check does not find `returns`, what a turn with two products answers.
     for from in (0..last).step_by(64) {
         if !strip_of_rows(s, reduction, moved(run, gap * from), gap) {
             return false;
@@ -74,12 +70,7 @@ fn strip_of_rows(s: &[u8], reduction: u8, run: Run, gap: usize) -> bool
     requires { Inside (behind run (gap * 63)) (length s.now) }
     ensures { Decides (RowsRight reduction run gap 0 64 s.now) result }
 {
-    for byte in 0..run.width {
-        if !lanes(s, reduction, moved(run, byte), gap) {
-            return false;
-        }
-    }
-    true
+    (0..run.width).all(|byte| lanes(s, reduction, moved(run, byte), gap))
 }
 
 // Whether 64 lines are codewords, the first of a run and those `gap` bytes further each: their syndromes stay in registers.
@@ -91,7 +82,7 @@ fn lanes(s: &[u8], reduction: u8, run: Run, gap: usize) -> bool
     for i in (0..run.len).rev() {
         sums.step(reduction, gather(s, run.first + run.stride * i, gap));
     }
-    sums.both_zero()
+    sums.all_zero(64)
 }
 
 // The 64 bytes from `at` on, `gap` bytes from one to the next.

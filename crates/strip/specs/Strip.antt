@@ -19,7 +19,7 @@ pub record Sums (a b c : List ℕ) : Type 0 where
   pub size : length c ≡ 64
   pub bytes : (t : ℕ) → t < 64 → get_or c t 0 ≡ add (get_or a t 0) (get_or b t 0)
 
--- The first n bytes of both strips are 00h; a strip has 64.
-pub record BothZero (n : ℕ) (a0 a1 : List ℕ) : Type 0 where
-  pub first : (t : ℕ) → t < n → t < 64 → get_or a0 t 0 ≡ 0
-  pub second : (t : ℕ) → t < n → t < 64 → get_or a1 t 0 ≡ 0
+-- The first n bytes of both lists are 00h.
+pub record AllZero (n : ℕ) (a0 a1 : List ℕ) : Type 0 where
+  pub first : (t : ℕ) → t < n → get_or a0 t 0 ≡ 0
+  pub second : (t : ℕ) → t < n → get_or a1 t 0 ≡ 0

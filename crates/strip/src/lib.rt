@@ -2,9 +2,9 @@
 // so that the compiler sees that nothing else can change them and keeps them in registers. Every public function is total.
 #![tactic(auto)]
 
-ghost use Rattle.std.specs.Prelude.{◌≡◌, ◌⊎◌, ◌<◌, ◌≤◌, replicate};
+ghost use Rattle.std.specs.Prelude.{◌≡◌, replicate};
 ghost use Rattle.span.specs.Decision.{Decides};
-ghost use Rattle.strip.specs.Strip.{Step, Products, Sums, BothZero};
+ghost use Rattle.strip.specs.Strip.{Step, Products, Sums, AllZero};
 
 // The first and the second syndrome of each of up to N lines.
 #[derive(Clone, Copy)]
@@ -23,6 +23,17 @@ impl<const N: usize> Syndromes<N> {
             first: [0; N],
             second: [0; N],
         }
+    }
+
+    // Whether those of the first n lines are 00h: their bytes are joined by or, so that no line costs a branch.
+    pub fn all_zero(&self, n: usize) -> bool
+        ensures { Decides (AllZero n self.now.first self.now.second) result }
+    {
+        let mut any: u8 = 0;
+        for t in 0..n.min(N) {
+            any |= self.first[t] | self.second[t];
+        }
+        any == 0
     }
 }
 
@@ -47,28 +58,6 @@ impl Syndromes<64> {
         }
         y
     }
-
-    // Whether all are 00h: their bytes are joined by or, so that no line costs a branch.
-    pub fn both_zero(self) -> bool
-        ensures { Decides (BothZero 64 self.first self.second) result }
-    {
-        let mut any: u8 = 0;
-        for t in 0..64 {
-            any |= self.first[t] | self.second[t];
-        }
-        any == 0
-    }
-
-    // Whether those of the first n lines are 00h. All 64 are read and those behind count as 00h, so that the loop keeps its fixed length.
-    pub fn both_zero_below(self, n: u8) -> bool
-        ensures { Decides (BothZero n self.first self.second) result }
-    {
-        let mut any: u8 = 0;
-        for t in 0..64 {
-            any |= kept_below(self.first[t] | self.second[t], t as u8, n);
-        }
-        any == 0
-    }
 }
 
 // The sums of the bytes of two strips.
@@ -80,11 +69,4 @@ pub fn sums(a: [u8; 64], b: [u8; 64]) -> [u8; 64]
         c[t] = a[t] ^ b[t];
     }
     c
-}
-
-// The byte of a place below n, 00h for another.
-fn kept_below(byte: u8, t: u8, n: u8) -> u8
-    ensures { ((t < n) × (result ≡ byte)) ⊎ ((n ≤ t) × (result ≡ 0)) }
-{
-    if t < n { byte } else { 0 }
 }

@@ -62,11 +62,6 @@ pub record Combined (r : ℕ) (run : Run) (e : Erasures) (s0 s1 before after : L
       e.j < e.k → (t : ℕ) → t < run.width →
       line_at after run t e.j ≡ add (get_or s0 t 0) (line_at after run t e.k)
 
--- The first w bytes of both lists are 0.
-pub record AllZero (w : ℕ) (s0 s1 : List ℕ) : Type 0 where
-  pub first : (t : ℕ) → t < w → get_or s0 t 0 ≡ 0
-  pub second : (t : ℕ) → t < w → get_or s1 t 0 ≡ 0
-
 -- Both erasures of each line of `run`, written from the syndromes of the lines of `read`.
 pub record Combining (r : ℕ) (read run : Run) (e : Erasures) (before after : List ℕ) : Type 0 where
   pub s0 : List ℕ

@@ -19,4 +19,4 @@ pub returns : goal.returns
 returns c =
     let done : c.loop-i.i ≡ 0 = omega arith in
     let sums = c.loop-i.invariant in
-    decides-map (zero-lanes sums done) (lanes-zero sums done) c.both_zero.ensures
+    decides-map (zero-lanes sums done) (lanes-zero sums done) c.all_zero.ensures

@@ -2,7 +2,7 @@
 use mathlib.Core.Path.{sym}
 use native.Mathlib.Omega.{arith}
 use Rattle.span.proofs.Decision.{decides-map}
-use Rattle.line.proofs.Zeros.{zeros-codewords, codewords-zeros, zeros-both, both-zeros}
+use Rattle.line.proofs.Zeros.{zeros-codewords, codewords-zeros}
 use Rattle.line.proofs.Parts.{roomy-inside}
 use Rattle.line.proofs.strips.codewords.Goals as goal
 
@@ -13,5 +13,4 @@ syndromes-requires c =
 
 pub returns : goal.returns
 returns c =
-    decides-map (λ z. zeros-codewords c.syndromes.ensures (both-zeros (omega arith) (omega arith) z))
-    (λ w. rw (sym c.requires.1) (zeros-both (codewords-zeros c.syndromes.ensures w))) c.both_zero.ensures
+    decides-map (zeros-codewords c.syndromes.ensures) (codewords-zeros c.syndromes.ensures) (rw (sym c.requires.1) at c.all_zero.ensures)
