@@ -153,10 +153,10 @@ pub packet-absent : (p : List ℕ) (h : Header) (s : Section) (i : ℕ) (r : Opt
 packet-absent p h s i r o e n = packet-off p h s i r o e (on-cube p h s i n)
 
 -- all packets of a pack that was read stand in it: they name a cell where they pass check 11
-pub air-named : (p : List ℕ) (h : Header) (s : Section) (i : ℕ) → air_of p ≡ passes (h, s) → ((k : ℕ) → get_or p k 0 < 256) → i < s.count
+pub air-named : (p : List ℕ) (h : Header) (s : Section) (i : ℕ) → air_of p ≡ passes (h, s) → i < s.count
     → InRange p h s i → Named p h s i
 unfolding packet_at
-air-named p h s i e small l r =
+air-named p h s i e l r =
     let sound = air-sound p h s e in
     let v = sound.header.valid in
     record {
