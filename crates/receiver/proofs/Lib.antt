@@ -1,5 +1,5 @@
 -- The laws of the crate.
--- Bytes: small laws of lists and answers.
+-- Clash: a small law of answers.
 mod Clash
 -- Copies: the copies of a cell, and where all are equal.
 pub mod Copies

@@ -44,8 +44,9 @@ fn begin(cube: &mut [u8], flags: &mut [u8], h: Header)
     let _ = data::set_data(cube, sh, h.used * sh.w, 0);
 }
 
-// Places one packet after another; the answer is the repeats. While packets are placed a flag is `MISSING` where none came, `KNOWN` where all
-// that came are equal, `MARKED` where two differ, and `UNSENT` where the cell is unsent. First packets and repeats mostly come in long runs, so each have a loop of their own.
+// Places one packet after another; the answer is the repeats. While packets are placed a flag is `MISSING` where none came, `KNOWN` where all that came
+// are equal, `MARKED` where two differ, and `UNSENT` where the cell is unsent. First packets and repeats mostly come in long runs, so each have a loop of
+// their own.
 fn place_packets(packets: &Packets, cube: &mut [u8], flags: &mut [u8]) -> usize
     requires { Placeable packets.now 0 cube.old flags.old }
     ensures { Marked packets.now.header (sequence packets.now) packets.now.section.count cube.new flags.new
