@@ -1,7 +1,7 @@
 -- Packets as they stand in a pack, and those that name a cell: what the calls answer, and what a pack that was read needs of them.
 use Rattle.std.specs.Prelude.{Option, Some, None, is_some, MatchOption}
 use Rattle.std.specs.Option.{option_or, unwrap_or}
-use mathlib.Core.Path.{◌≡◌, refl, sym, ap, ◌∙◌}
+use mathlib.Core.Path.{◌≡◌, refl, sym, ap, subst, ◌∙◌}
 use mathlib.Core.Bool.{Bool, true, false, cond, false≢true, true≢false}
 use mathlib.Core.List.{List}
 use Prim.Native.Nat.{ℕ, ◌+◌, ◌*◌, ◌≤◌, ◌<◌}
@@ -280,3 +280,12 @@ outside-unsent p h s None None first none = none-unsent p h s s.count first none
 outside-unsent p h s (Some i) None first none = (none-unsent p h s i first.0 none, first.1)
 outside-unsent p h s None (Some i) first (l, here, before) = (unsent-outside p h s i s.count first l before here, l)
 outside-unsent p h s (Some k) (Some i) first (l, here, before) = (unsent-outside p h s i k first.0 l before here, omega (arith, first.1))
+
+-- what a caller learns of it
+pub outside-some : (p : List ℕ) (h : Header) (s : Section) (r : Option ℕ) (i : ℕ) → First s (FirstOutside p h s) r → r ≡ Some i
+    → FirstOutside p h s i × (i < s.count)
+outside-some p h s r i o e = subst (First s (FirstOutside p h s)) e o
+
+pub outside-none : (p : List ℕ) (h : Header) (s : Section) (r : Option ℕ) → First s (FirstOutside p h s) r → r ≡ None
+    → FirstOutside p h s s.count
+outside-none p h s r o e = subst (First s (FirstOutside p h s)) e o

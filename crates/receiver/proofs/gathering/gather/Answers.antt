@@ -1,5 +1,5 @@
 -- `gather` checks every index, then places the packets, then fills.
-use Rattle.pack.proofs.Naming.{air-named}
+use Rattle.pack.proofs.Naming.{air-named, outside-some, outside-none}
 use Rattle.pack.proofs.Sound.{air-sound}
 use Rattle.receiver.specs.Inner.Placing.{AllNamed}
 use Rattle.receiver.proofs.Outcomes.{gathered-index, gathered-contradiction, gathered-filled}
@@ -8,11 +8,11 @@ use Rattle.receiver.proofs.gathering.gather.Goals.{In_default}
 
 -- every packet stands in the pack and names a cell
 named : (c : In_default) → AllNamed c.args.packets.now
-named c = c.in_default.ensures.before
+named c = (outside-none _ _ _ _ c.first_outside.ensures c.in_default.is).before
 
 pub returns-in-Some : goal.returns-in-Some
 returns-in-Some c =
-    let (first, less) = c.in-Some.ensures in
+    let (first, less) = outside-some _ _ _ _ _ c.first_outside.ensures c.in-Some.is in
     λ checks accepted.
     gathered-index _ checks _ _ _ _ accepted _ less
     (λ range. first.here less (air-named _ _ _ _ c.requires.air less range))
