@@ -113,7 +113,7 @@ module _ (p : List ℕ) (h : Header) (s : Section) (read : air_of p ≡ passes (
   unfolding packet_in source sends
   in-range-named small full i l a b c =
       let sent = all-sent h full _ (cell-lt-cells h.shape _ _ _ a b c) in
-      air-named p h s i read small l (record { first = a; second = b; third = c; sent = rw sent })
+      air-named p h s i read l (record { first = a; second = b; third = c; sent = rw sent })
 
 -- ---- a pack that was read
 

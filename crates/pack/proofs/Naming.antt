@@ -1,6 +1,7 @@
 -- Packets as they stand in a pack, and those that name a cell: what the calls answer, and what a pack that was read needs of them.
-use Rattle.std.specs.Prelude.{Option, Some, None}
-use mathlib.Core.Path.{◌≡◌, refl, sym, ap, ◌∙◌}
+use Rattle.std.specs.Prelude.{Option, Some, None, is_some, MatchOption}
+use Rattle.std.specs.Option.{option_or, unwrap_or}
+use mathlib.Core.Path.{◌≡◌, refl, sym, ap, subst, ◌∙◌}
 use mathlib.Core.Bool.{Bool, true, false, cond, false≢true, true≢false}
 use mathlib.Core.List.{List}
 use Prim.Native.Nat.{ℕ, ◌+◌, ◌*◌, ◌≤◌, ◌<◌}
@@ -21,7 +22,7 @@ use Rattle.pack.specs.declared.Header.{Header}
 use Rattle.pack.specs.Packs.{unsent, sends}
 use Rattle.pack.specs.Reading.{packet_size, air_of}
 use Rattle.pack.specs.Packets.{packet_at, packet_in, source, Stands, PartsOutcome, standing, not_standing, OnCube, InRange, Named, PacketOutcome, named, unnamed, FirstOutside}
-use Rattle.pack.specs.Inner.Packets.{within_limits, named_by, FirstOff}
+use Rattle.pack.specs.Inner.Packets.{within_limits, named_by, FirstOff, FirstUnsent}
 use Rattle.pack.proofs.Sound.{air-sound}
 
 -- ---- the limits of a packet
@@ -126,15 +127,6 @@ module _ (p : List ℕ) (h : Header) (s : Section) (i : ℕ) where
       rw (← first, ← second, ← third) at f
   parts-unsent a b c at q r (not_standing never) e f = let z : ◌≡◌ {A = ℕ} 0 1 = cc in absurd (omega arith)
 
-  -- and they are bytes
-  pub parts-small : ((k : ℕ) → get_or p k 0 < 256) → (a b c at : ℕ) (q : Option (ℕ × ℕ × ℕ × ℕ)) → PartsOutcome p h s i q
-      → q ≡ Some (a, b, c, at) → (a < 256) × (b < 256) × (c < 256)
-  unfolding packet_in
-  parts-small small a b c at q (standing n) e =
-      let (first, second, third, _) = some-four _ a _ b _ c _ at e in
-      rw (← first, ← second, ← third) (small _, small _, small _)
-  parts-small small a b c at q (not_standing never) e = let z : ◌≡◌ {A = ℕ} 0 1 = cc in absurd (omega arith)
-
   pub parts-range : (a b c at : ℕ) (q : Option (ℕ × ℕ × ℕ × ℕ)) → PartsOutcome p h s i q → q ≡ Some (a, b, c, at) → OnCube p h s i
       → (a < h.shape.l1) × (b < h.shape.l2) × (c < h.shape.l3)
   unfolding packet_in
@@ -161,10 +153,10 @@ pub packet-absent : (p : List ℕ) (h : Header) (s : Section) (i : ℕ) (r : Opt
 packet-absent p h s i r o e n = packet-off p h s i r o e (on-cube p h s i n)
 
 -- all packets of a pack that was read stand in it: they name a cell where they pass check 11
-pub air-named : (p : List ℕ) (h : Header) (s : Section) (i : ℕ) → air_of p ≡ passes (h, s) → ((k : ℕ) → get_or p k 0 < 256) → i < s.count
+pub air-named : (p : List ℕ) (h : Header) (s : Section) (i : ℕ) → air_of p ≡ passes (h, s) → i < s.count
     → InRange p h s i → Named p h s i
 unfolding packet_at
-air-named p h s i e small l r =
+air-named p h s i e l r =
     let sound = air-sound p h s e in
     let v = sound.header.valid in
     record {
@@ -203,6 +195,16 @@ place-sent p h s i r = not-true (unsent h ((source p h s).place i)) r.sent
 
 -- ---- check 11
 
+-- what the test of a packet's cell says
+pub off-none : (p : List ℕ) (h : Header) (s : Section) (i : ℕ) (r : Option (ℕ × ℕ)) → PacketOutcome p h s i r → is_some r ≡ false
+    → OnCube p h s i → ⊥
+off-none p h s i r (named m) e = absurd (true≢false e)
+off-none p h s i r (unnamed never) e = never
+
+pub on-some : (p : List ℕ) (h : Header) (s : Section) (i : ℕ) (r : Option (ℕ × ℕ)) → PacketOutcome p h s i r → is_some r ≡ true → OnCube p h s i
+on-some p h s i r (named m) e = m
+on-some p h s i r (unnamed never) e = absurd (false≢true e)
+
 -- with every cell sent the coordinates decide
 pub off-outside : (p : List ℕ) (h : Header) (s : Section) (r : ℕ) → FirstOff p h s r
     → ((n : ℕ) → n < cells h.shape → unsent h n ≡ false) → FirstOutside p h s r
@@ -235,3 +237,55 @@ none-unsent p h s r off before =
       before = λ j less. cube-sent p h s j (off.before j less) (before j less);
       here = λ l n. off.here l (on-cube p h s r n);
     }
+
+-- ---- its answer, off being what a look at the coordinates answers
+
+-- the first packet that is asked for, or none before the count
+abbrev pub First : Section → (ℕ → Type 0) → Option ℕ → Type 0
+First s P r = MatchOption r (P s.count) (λ i. P i × (i < s.count))
+
+-- what the search for it finds
+pub found-off : (p : List ℕ) (h : Header) (s : Section) (r : Option ℕ)
+    → MatchOption r ((k : ℕ) → 0 ≤ k → k < s.count → OnCube p h s k)
+    (λ i. (0 ≤ i) × (i < s.count) × (OnCube p h s i → ⊥) × ((k : ℕ) → 0 ≤ k → k < i → OnCube p h s k))
+    → First s (FirstOff p h s) r
+found-off p h s None all = record { bound = omega arith; before = λ i l. all i (omega arith) l; here = λ l. absurd (omega arith) }
+found-off p h s (Some i) (_, l, here, before) =
+    (record { bound = omega arith; before = λ j less. before j (omega arith) less; here = λ _. here }, l)
+
+pub found-unsent : (p : List ℕ) (h : Header) (s : Section) (end : ℕ) (r : Option ℕ)
+    → MatchOption r ((k : ℕ) → 0 ≤ k → k < end → unsent h ((source p h s).place k) ≡ false)
+    (λ i. (0 ≤ i) × (i < end) × (unsent h ((source p h s).place i) ≡ true)
+    × ((k : ℕ) → 0 ≤ k → k < i → unsent h ((source p h s).place k) ≡ false))
+    → FirstUnsent p h s end r
+found-unsent p h s end None all = λ i l. all i (omega arith) l
+found-unsent p h s end (Some i) (_, l, here, before) = (l, here, λ j less. before j (omega arith) less)
+
+-- with every cell sent it is the answer
+pub outside-sent : (p : List ℕ) (h : Header) (s : Section) (off : Option ℕ) → First s (FirstOff p h s) off
+    → ((n : ℕ) → n < cells h.shape → unsent h n ≡ false) → First s (FirstOutside p h s) off
+outside-sent p h s None first all = off-outside p h s s.count first all
+outside-sent p h s (Some i) first all = (off-outside p h s i first.0 all, first.1)
+
+-- the packets before it name cells
+pub off-before : (p : List ℕ) (h : Header) (s : Section) (off : Option ℕ) → First s (FirstOff p h s) off
+    → (i : ℕ) → i < unwrap_or off s.count → OnCube p h s i
+off-before p h s None first = first.before
+off-before p h s (Some i) first = first.0.before
+
+-- of these the first whose cell is not sent comes before it
+pub outside-unsent : (p : List ℕ) (h : Header) (s : Section) (off u : Option ℕ) → First s (FirstOff p h s) off
+    → FirstUnsent p h s (unwrap_or off s.count) u → First s (FirstOutside p h s) (option_or u off)
+outside-unsent p h s None None first none = none-unsent p h s s.count first none
+outside-unsent p h s (Some i) None first none = (none-unsent p h s i first.0 none, first.1)
+outside-unsent p h s None (Some i) first (l, here, before) = (unsent-outside p h s i s.count first l before here, l)
+outside-unsent p h s (Some k) (Some i) first (l, here, before) = (unsent-outside p h s i k first.0 l before here, omega (arith, first.1))
+
+-- what a caller learns of it
+pub outside-some : (p : List ℕ) (h : Header) (s : Section) (r : Option ℕ) (i : ℕ) → First s (FirstOutside p h s) r → r ≡ Some i
+    → FirstOutside p h s i × (i < s.count)
+outside-some p h s r i o e = subst (First s (FirstOutside p h s)) e o
+
+pub outside-none : (p : List ℕ) (h : Header) (s : Section) (r : Option ℕ) → First s (FirstOutside p h s) r → r ≡ None
+    → FirstOutside p h s s.count
+outside-none p h s r o e = subst (First s (FirstOutside p h s)) e o

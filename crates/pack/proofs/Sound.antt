@@ -1,13 +1,15 @@
 -- What a pack that was read says of its header and its section, and what a caller of a reader learns from its answer.
-use Rattle.std.specs.Prelude.{Result, Err}
-use mathlib.Core.Path.{◌≡◌, refl, sym, ap}
-use mathlib.Core.Bool.{true}
+use Rattle.std.specs.Prelude.{Result, Err, Option, Some, None}
+use Rattle.std.specs.Option.{unwrap_or}
+use mathlib.Core.Path.{◌≡◌, refl, sym, ap, ◌∙◌}
+use mathlib.Core.Bool.{Bool, true, false, cond}
 use mathlib.Core.Logic.{◌⊎◌, inl, inr, ⊎_elim}
 use mathlib.Core.List.{List}
 use Prim.Native.Nat.{ℕ, ◌+◌, ◌-◌, ◌*◌, ◌^◌, ◌≤◌, ◌<◌}
 use native.Mathlib.Nat.{mul-le-mul, mul-le-mul_left, mul-pos, sub-le}
 use native.Mathlib.Decide.{ℕ_discrete}
 use native.Mathlib.Omega.{arith}
+use lib.Dec.{eqb}
 use lib.ListN.{length, get_or}
 use borrow.Author.Tests.{leb-true, eqb-true, ne_eqb}
 use Rattle.answer.specs.declared.Refusal.{Refusal}
@@ -71,6 +73,16 @@ count-least n e = ⊎_elim (λ five. omega arith) (λ nine. omega arith) (count-
 pub used-plain : (sh : Shape) (n u : ℕ) → n ≡ 5 → used_by sh n u ≡ data_cells sh
 unfolding used_by
 used-plain sh n u e = rw e
+
+-- what is given stands where the count is 9, else all are in use
+used-by : (sh : Shape) (n u : ℕ) (b : Bool) → eqb n 9 ≡ b → unwrap_or (cond b (Some u) None) (data_cells sh) ≡ used_by sh n u
+unfolding used_by
+used-by sh n u true e = rw e refl
+used-by sh n u false e = rw e refl
+
+pub used-given : (sh : Shape) (n u all used : ℕ) (given : Option ℕ) → all ≡ data_cells sh → given ≡ cond (eqb n 9) (Some u) None
+    → used ≡ unwrap_or given all → used ≡ used_by sh n u
+used-given sh n u all used given whole e same = same ∙ rw (e, whole) (used-by sh n u (eqb n 9) refl)
 
 capacity-room : (sh : Shape) (z : Sizes) → z ≡ sizes sh → 4 ≤ z.capacity → 4 ≤ capacity sh
 unfolding sizes

@@ -59,7 +59,7 @@ pub record Stands (p : List ℕ) (h : Header) (s : Section) (i : ℕ) : Type 0 w
   pub w_high : h.shape.w ≤ 1024
   pub inside : packet_at h s i + packet_size h ≤ length p
 
--- What `packet_parts` answers: a, b, c and where the cell's bytes begin, or that no packet stands there.
+-- What `Packets::parts` answers: a, b, c and where the cell's bytes begin, or that no packet stands there.
 pub data PartsOutcome (p : List ℕ) (h : Header) (s : Section) (i : ℕ) : Option (ℕ × ℕ × ℕ × ℕ) → Type 0 where
   standing :
       Stands p h s i →
@@ -73,7 +73,7 @@ pub record OnCube (p : List ℕ) (h : Header) (s : Section) (i : ℕ) : Type 0 w
   pub second : get_or p (packet_at h s i + 1) 0 < h.shape.l2
   pub third : get_or p (packet_at h s i + 2) 0 < h.shape.l3
 
--- What `packet` answers: the cell and where its bytes begin, or that no packet stands there or names a cell.
+-- What `Packets::packet` answers: the cell and where its bytes begin, or that no packet stands there or names a cell.
 pub data PacketOutcome (p : List ℕ) (h : Header) (s : Section) (i : ℕ) : Option (ℕ × ℕ) → Type 0 where
   named : OnCube p h s i → PacketOutcome p h s i (Some ((source p h s).place i, packet_at h s i + 3))
   unnamed : (OnCube p h s i → ⊥) → PacketOutcome p h s i None
@@ -90,7 +90,7 @@ pub record Named (p : List ℕ) (h : Header) (s : Section) (i : ℕ) : Type 0 wh
   pub stands : Stands p h s i
   pub range : InRange p h s i
 
--- What `first_outside` answers: the first packet that names no cell that is sent, or the count.
+-- Packet r, or the count, is the first that names no cell that is sent (`Packets::first_outside`).
 pub record FirstOutside (p : List ℕ) (h : Header) (s : Section) (r : ℕ) : Type 0 where
   pub bound : r ≤ s.count
   pub before : (i : ℕ) → i < r → Named p h s i

@@ -5,7 +5,7 @@
 mod packets;
 mod reading;
 
-pub use packets::{first_outside, packet, packet_parts};
+pub use packets::Packets;
 pub use reading::{read_air, read_header, read_job, read_plain_air, sent_cells};
 use shape::{Shape, Sizes};
 

@@ -1,36 +1,88 @@
 // The packets of a section: the cell that each names and where its bytes stand, and check 11.
-ghost use Rattle.std.specs.Prelude.{◌≡◌, true, false, ℕ, ◌+◌, ◌*◌, ◌≤◌, ◌<◌};
+ghost use Rattle.std.specs.Prelude.{◌≡◌, true, false, ℕ, ◌+◌, ◌*◌, ◌≤◌, ◌<◌, MatchOption};
 ghost use Rattle.shape.specs.Shapes.{cells, cell};
 ghost use Rattle.pack.specs.Packs.{unsent};
 ghost use Rattle.pack.specs.Packets.{source, OnCube, PacketOutcome, PartsOutcome, FirstOutside};
-ghost use Rattle.pack.specs.Inner.Packets.{within_limits, named_by, FirstOff};
+ghost use Rattle.pack.specs.Inner.Packets.{within_limits, named_by, FirstOff, FirstUnsent};
 
 use crate::reading::data_cells;
 use crate::{Header, Section};
 use shape::Shape;
 
-// The first packet of the section that names no cell that is sent, or the section's count. Mostly every cell is sent, and then no packet is asked for more
-// than its coordinates.
-pub fn first_outside(pack: &[u8], h: Header, s: Section) -> usize
-    ensures { FirstOutside pack.now h s result }
-{
-    let end = first_off(pack, h, s);
-    if all_sent(h) {
-        return end;
-    }
-    first_unsent(pack, h, s, end)
+// The packets of a pack: its bytes, and the header and the section that were read from them.
+#[derive(Clone, Copy)]
+pub struct Packets<'a> {
+    pub bytes: &'a [u8],
+    pub header: Header,
+    pub section: Section,
 }
 
-// The first packet that names no cell of the cube, or the section's count.
-fn first_off(pack: &[u8], h: Header, s: Section) -> usize
-    ensures { FirstOff pack.now h s result }
-{
-    for i in 0..s.count {
-        if packet(pack, h, s, i).is_none() {
-            return i;
+impl Packets<'_> {
+    // The first packet that names no cell that is sent. Mostly every cell is sent, and then no packet is asked for more than its coordinates.
+    pub fn first_outside(&self) -> Option<usize>
+        ensures { MatchOption result (FirstOutside self.now.bytes.now self.now.header self.now.section self.now.section.count)
+            (λ i. FirstOutside self.now.bytes.now self.now.header self.now.section i × (i < self.now.section.count)) }
+    {
+        let off = self.first_off();
+        if all_sent(self.header) {
+            return off;
         }
+        self.first_unsent(off.unwrap_or(self.section.count)).or(off)
     }
-    s.count
+
+    // The first packet that names no cell of the cube.
+    fn first_off(&self) -> Option<usize>
+        ensures { MatchOption result (FirstOff self.now.bytes.now self.now.header self.now.section self.now.section.count)
+            (λ i. FirstOff self.now.bytes.now self.now.header self.now.section i × (i < self.now.section.count)) }
+    {
+        (0..self.section.count).find(|i| self.packet(*i).is_none())
+    }
+
+    // The first of the packets before `end` that names a cell that is not sent.
+    fn first_unsent(&self, end: usize) -> Option<usize>
+        requires { (i : ℕ) → i < end → OnCube self.now.bytes.now self.now.header self.now.section i }
+        ensures { FirstUnsent self.now.bytes.now self.now.header self.now.section end result }
+    {
+        (0..end).find(|j| self.names_unsent(*j))
+    }
+
+    // Whether packet i names a cell that is not sent.
+    fn names_unsent(&self, i: usize) -> bool
+        requires { OnCube self.now.bytes.now self.now.header self.now.section i }
+        ensures { result ≡ unsent self.now.header ((source self.now.bytes.now self.now.header self.now.section).place i) }
+    {
+        let Some((a, b, c, _)) = self.parts(i) else {
+            return false;
+        };
+        is_unsent(self.header, a, b, c)
+    }
+
+    // Packet i: the cell that it names, and where its bytes begin.
+    pub fn packet(&self, i: usize) -> Option<(usize, usize)>
+        ensures { PacketOutcome self.now.bytes.now self.now.header self.now.section i result }
+    {
+        let (a, b, c, at) = self.parts(i)?;
+        named(self.header.shape, a, b, c, at)
+    }
+
+    // Packet i as it stands there, a, b, c and where its bytes begin, without check 11. The limits keep all products in a machine word; every header that
+    // was read is within them.
+    pub fn parts(&self, i: usize) -> Option<(u8, u8, u8, usize)>
+        ensures { PartsOutcome self.now.bytes.now self.now.header self.now.section i result }
+    {
+        let sh = self.header.shape;
+        if !within_limits(sh) {
+            return None;
+        }
+        let size = 3 + sh.w;
+        let s = self.section;
+        let pack = self.bytes;
+        if !lies_in(pack.len(), s.at, i, size) {
+            return None;
+        }
+        let at = s.at + i * size;
+        Some((pack[at], pack[at + 1], pack[at + 2], at + 3))
+    }
 }
 
 // Whether a look at the header tells that every cell is sent.
@@ -38,55 +90,6 @@ fn all_sent(h: Header) -> bool
     ensures { result ≡ true → (n : ℕ) → n < cells h.shape → unsent h n ≡ false }
 {
     shape::measure(h.shape).is_ok() && data_cells(h.shape) <= h.used
-}
-
-// The first of the packets before `end` that names a cell that is not sent, or `end`.
-fn first_unsent(pack: &[u8], h: Header, s: Section, end: usize) -> usize
-    requires { FirstOff pack.now h s end }
-    ensures { FirstOutside pack.now h s result }
-{
-    for j in 0..end {
-        if names_unsent(pack, h, s, j) {
-            return j;
-        }
-    }
-    end
-}
-
-// Whether packet i names a cell that is not sent.
-fn names_unsent(pack: &[u8], h: Header, s: Section, i: usize) -> bool
-    requires { OnCube pack.now h s i }
-    ensures { result ≡ unsent h ((source pack.now h s).place i) }
-{
-    let Some((a, b, c, _)) = packet_parts(pack, h, s, i) else {
-        return false;
-    };
-    is_unsent(h, usize::from(a), usize::from(b), usize::from(c))
-}
-
-// Packet i of the section: the cell that it names.
-pub fn packet(pack: &[u8], h: Header, s: Section, i: usize) -> Option<(usize, usize)>
-    ensures { PacketOutcome pack.now h s i result }
-{
-    let (a, b, c, at) = packet_parts(pack, h, s, i)?;
-    named(h.shape, usize::from(a), usize::from(b), usize::from(c), at)
-}
-
-// Packet i of the section as it stands there, without check 11. The limits keep all products in a machine word; every header that was read is
-// within them.
-pub fn packet_parts(pack: &[u8], h: Header, s: Section, i: usize) -> Option<(u8, u8, u8, usize)>
-    ensures { PartsOutcome pack.now h s i result }
-{
-    let sh = h.shape;
-    if !within_limits(sh) {
-        return None;
-    }
-    let size = 3 + sh.w;
-    if !lies_in(pack.len(), s.at, i, size) {
-        return None;
-    }
-    let at = s.at + i * size;
-    Some((pack[at], pack[at + 1], pack[at + 2], at + 3))
 }
 
 fn within_limits(sh: Shape) -> bool
@@ -104,10 +107,11 @@ fn lies_in(len: usize, at: usize, i: usize, size: usize) -> bool
 }
 
 // The cell that a, b and c name, where they are below their lengths.
-fn named(sh: Shape, a: usize, b: usize, c: usize, at: usize) -> Option<(usize, usize)>
-    requires { (sh.l1 ≤ 255) × (sh.l2 ≤ 255) × (b < 256) × (c < 256) }
+fn named(sh: Shape, a: u8, b: u8, c: u8, at: usize) -> Option<(usize, usize)>
+    requires { (sh.l1 ≤ 255) × (sh.l2 ≤ 255) }
     ensures { result ≡ named_by sh a b c at }
 {
+    let (a, b, c) = (usize::from(a), usize::from(b), usize::from(c));
     if a < sh.l1 && b < sh.l2 && c < sh.l3 {
         Some((a + sh.l1 * (b + sh.l2 * c), at))
     } else {
@@ -116,10 +120,11 @@ fn named(sh: Shape, a: usize, b: usize, c: usize, at: usize) -> Option<(usize, u
 }
 
 // Whether cell (a,b,c) is a data cell beyond those in use.
-fn is_unsent(h: Header, a: usize, b: usize, c: usize) -> bool
-    requires { (h.shape.l1 ≤ 255) × (h.shape.l2 ≤ 255) × (a < h.shape.l1) × (b < h.shape.l2) × (c < h.shape.l3) × (c < 256) }
+fn is_unsent(h: Header, a: u8, b: u8, c: u8) -> bool
+    requires { (h.shape.l1 ≤ 255) × (h.shape.l2 ≤ 255) × (a < h.shape.l1) × (b < h.shape.l2) × (c < h.shape.l3) }
     ensures { result ≡ unsent h (cell h.shape a b c) }
 {
+    let (a, b, c) = (usize::from(a), usize::from(b), usize::from(c));
     let sh = h.shape;
     a + 2 < sh.l1
         && b + 2 < sh.l2

@@ -1,8 +1,8 @@
 // Reading a pack: for everybody section 1, for the writer a file, for the receiver packets. Checks in the order of document 01's table.
-ghost use Rattle.std.specs.Prelude.{◌≡◌, ◌+◌, ◌≤◌, length};
+ghost use Rattle.std.specs.Prelude.{◌≡◌, cond, ℕ, ◌+◌, ◌≤◌, eqb, length};
 ghost use Rattle.answer.specs.Values.{value_of, checked};
 ghost use Rattle.shape.specs.Shapes.{Valid, within, data_cells};
-ghost use Rattle.pack.specs.Reading.{shape_at, given_at, used_by, headed, is_count, header_of, sent_checked, job_behind, job_of, air_behind, air_of, plain_air_of};
+ghost use Rattle.pack.specs.Reading.{shape_at, given_at, headed, is_count, header_of, sent_checked, job_behind, job_of, air_behind, air_of, plain_air_of};
 
 use crate::{Header, Section};
 use answer::{Fault, Refusal};
@@ -85,29 +85,32 @@ fn shape_at(pack: &[u8], at: usize) -> Shape
 }
 
 // The four bytes behind them, where the count is 9.
-fn given_at(pack: &[u8], at: usize, n: usize) -> usize
+fn given_at(pack: &[u8], at: usize, n: usize) -> Option<usize>
     requires { at + n ≤ length pack.now }
-    ensures { result ≡ given_at pack.now at n }
+    ensures { result ≡ cond (eqb n 9) (Some (given_at pack.now at n)) None }
 {
     if n != 9 {
-        return 0;
+        return None;
     }
-    match (Cursor { at: at + 5 }).count(pack) {
-        Ok((u, _)) => u,
-        Err(_) => 0,
-    }
+    let (used, _) = Cursor { at: at + 5 }.count(pack).ok()?;
+    Some(used)
 }
 
-// The shape's checks, room for the file's length, and the data cells in use.
-fn headed(sh: Shape, n: usize, given: usize, next: Cursor) -> Result<(Header, Cursor), Refusal>
-    ensures { value_of result ≡ checked (headed sh n given next) }
+// The shape's checks, room for the file's length, and the data cells in use, which are all where none are given.
+fn headed(
+    sh: Shape,
+    n: usize,
+    given: Option<usize>,
+    next: Cursor,
+) -> Result<(Header, Cursor), Refusal>
+    ensures { (u : ℕ) → given ≡ cond (eqb n 9) (Some u) None → value_of result ≡ checked (headed sh n u next) }
 {
     let z = shape::measure(sh)?;
     if z.capacity < 4 {
         return Err(Refusal::Plain(Fault::Capacity));
     }
     let all = data_cells(sh);
-    let used = used_by(all, n, given);
+    let used = given.unwrap_or(all);
     if !in_use(all, used) {
         return Err(Refusal::Plain(Fault::UsedCells));
     }
@@ -126,13 +129,6 @@ pub(crate) fn data_cells(sh: Shape) -> usize
     ensures { result ≡ data_cells sh }
 {
     (sh.l1 - 2) * (sh.l2 - 2) * (sh.l3 - 2)
-}
-
-// The data cells in use, of so many.
-fn used_by(all: usize, n: usize, given: usize) -> usize
-    ensures { (sh : Shape) → all ≡ data_cells sh → result ≡ used_by sh n given }
-{
-    if n == 9 { given } else { all }
 }
 
 // Whether so many data cells can be in use.

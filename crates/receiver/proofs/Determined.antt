@@ -33,7 +33,7 @@ use Rattle.receiver.specs.Gathering.{Reception, file, left, Gathered, ends, whol
 use Rattle.receiver.specs.Opening.{BadFile, OpenOutcome}
 use Rattle.receiver.specs.Receive.{Memory, receive_checked, ReceiveOutcome}
 use Rattle.receiver.specs.Theorems.{NothingLeftOpen}
-use Rattle.receiver.proofs.Bytes.{clash}
+use Rattle.receiver.proofs.Clash.{clash}
 use Rattle.receiver.proofs.Copies.{among-earlier, agreed-then}
 use Rattle.receiver.proofs.Outcomes.{accepted-ready, placed-checked}
 use Rattle.pack.proofs.Sound.{capacity_le}

@@ -1,5 +1,6 @@
 -- The file in a whole cube: what its data string makes of opening it.
-use Rattle.std.specs.Prelude.{Result, Ok, Err}
+use Rattle.std.specs.Prelude.{Result}
+use Rattle.std.specs.Result.{result_unwrap_or}
 use mathlib.Core.Path.{◌≡◌, refl, sym, ap, subst, ◌∙◌}
 use mathlib.Core.Bool.{Bool, true, false}
 use mathlib.Core.List.{List, ◌++◌}
@@ -21,7 +22,6 @@ use Rattle.data.proofs.Checks.{cube-done-checked, read-done-checked}
 use Rattle.data.proofs.Outcomes.{read-works, zero-works, zero-nonzero}
 use Rattle.cursor.specs.Steps.{word}
 use Rattle.receiver.specs.Opening.{long, later, OpenOutcome, held, bad}
-use Rattle.receiver.proofs.Bytes.{clash}
 use Rattle.pack.proofs.DataStrings.{string-of-file}
 
 -- the data string of a cube of bytes is made of bytes
@@ -32,16 +32,11 @@ held_small sh xs small q = tabulate-lt (capacity sh) (data_of sh xs) (λ i l. sm
 -- what the test for 00h answers where the cube has its length
 module _ (sh : Shape) (xs : List ℕ) (from : ℕ) (v : Valid sh) (size : length xs ≡ sh.w * cells sh) (r : Result Bool Refusal)
     (outcome : ZeroOutcome sh xs from (value_of r)) where
-  pub zero-told : (b : Bool) → r ≡ Ok b → Decides ((q : ℕ) → from ≤ q → q < capacity sh → data_of sh xs q ≡ 0) b
+  pub zero-told : (b : Bool) → b ≡ result_unwrap_or r false → Decides ((q : ℕ) → from ≤ q → q < capacity sh → data_of sh xs q ≡ 0) b
   zero-told b e =
       let (b', e', d) = zero-works r (cube-done-checked sh _ v size) outcome in
-      let same : b' ≡ b = cc in
+      let same : b' ≡ b = ap (λ (q : Result Bool Refusal). result_unwrap_or q false) (sym e') ∙ sym e in
       rw same at d
-
-  pub zero-answered : {X : Type 0} (f : Refusal) → r ≡ Err f → X
-  zero-answered f e =
-      let (b, e', d) = zero-works r (cube-done-checked sh _ v size) outcome in
-      clash cc
 
 -- what is read of the data string where the spans lie inside
 pub read_told : (sh : Shape) (xs : List ℕ) (from to n : ℕ) (before after : List ℕ) (r : Result Unit Refusal) → Valid sh → length xs ≡ sh.w * cells sh

@@ -1,6 +1,6 @@
 -- The laws of the crate.
--- Bytes: small laws of lists and answers.
-mod Bytes
+-- Clash: a small law of answers.
+mod Clash
 -- Copies: the copies of a cell, and where all are equal.
 pub mod Copies
 -- Arrivals: the cube and flags as packets are placed.

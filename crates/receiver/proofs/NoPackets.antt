@@ -33,7 +33,7 @@ use Rattle.receiver.specs.Placing.{among, agreed, flag_at, Placed}
 use Rattle.receiver.specs.Gathering.{Reception, left, Gathered, ends, GatherOutcome}
 use Rattle.receiver.specs.Receive.{Memory, receive_checked, ReceiveOutcome}
 use Rattle.receiver.specs.Theorems.{NoPackets, NoPacketsPlain}
-use Rattle.receiver.proofs.Bytes.{clash}
+use Rattle.receiver.proofs.Clash.{clash}
 use Rattle.receiver.proofs.Outcomes.{Ready, accepted-ready, placed-checked}
 use Rattle.receiver.proofs.Determined.{filled_as, Stage, stage}
 use Rattle.receiver.proofs.Corners.{sent-27}

@@ -40,7 +40,7 @@ use Rattle.receiver.specs.Gathering.{Reception, left, ends, whole, counts_of, no
 use Rattle.receiver.specs.Opening.{OpenOutcome, held, bad}
 use Rattle.receiver.specs.Receive.{reception_of, received_value, received_counts, Memory, lent, slices_fit, receive_checked, ReceiveOutcome, unopened, bad_file, opened}
 use Rattle.receiver.specs.Inner.Gathering.{gathering_value, gathering_counts}
-use Rattle.receiver.proofs.Bytes.{clash}
+use Rattle.receiver.proofs.Clash.{clash}
 use Rattle.receiver.proofs.Arrivals.{flag-le}
 
 -- ---- a pack that is accepted

@@ -2,8 +2,8 @@
 ghost use Rattle.std.specs.Prelude.{◌≡◌, ℕ, ◌-◌, ◌*◌, ◌≤◌, ◌<◌, length};
 ghost use Rattle.answer.specs.Values.{value_of};
 ghost use Rattle.span.specs.Decision.{Decides};
-ghost use Rattle.shape.specs.Shapes.{Valid, cells, capacity};
-ghost use Rattle.data.specs.Data.{data_of, held_data};
+ghost use Rattle.shape.specs.Shapes.{capacity};
+ghost use Rattle.data.specs.Data.{IsCube, data_of, held_data};
 ghost use Rattle.cursor.specs.Steps.{word};
 ghost use Rattle.receiver.specs.Opening.{OpenOutcome};
 
@@ -12,7 +12,7 @@ use shape::Shape;
 
 // Copies the file to the buffer where the data string holds one, and answers its length; else changes nothing.
 pub(crate) fn open(cube: &[u8], buffer: &mut [u8], sh: Shape) -> Result<usize, Refusal>
-    requires { Valid sh × (length cube.now ≡ sh.w * cells sh) × (4 ≤ capacity sh) × (length buffer.old ≡ capacity sh - 4) }
+    requires { IsCube sh cube.now × (4 ≤ capacity sh) × (length buffer.old ≡ capacity sh - 4) }
     ensures { OpenOutcome sh cube.now buffer.old buffer.new (value_of result) }
 {
     let n = held_length(cube, sh);
@@ -26,7 +26,7 @@ pub(crate) fn open(cube: &[u8], buffer: &mut [u8], sh: Shape) -> Result<usize, R
 
 // The length that stands in the first four bytes of the data string.
 fn held_length(cube: &[u8], sh: Shape) -> usize
-    requires { Valid sh × (length cube.now ≡ sh.w * cells sh) × (4 ≤ capacity sh) }
+    requires { IsCube sh cube.now × (4 ≤ capacity sh) }
     ensures { result ≡ word (held_data sh cube.now) 0 }
 {
     let mut bytes = [0u8; 4];
@@ -37,11 +37,8 @@ fn held_length(cube: &[u8], sh: Shape) -> usize
 
 // Whether every byte of the data string from `from` on is 00h.
 fn zero_behind(cube: &[u8], sh: Shape, from: usize) -> bool
-    requires { Valid sh × (length cube.now ≡ sh.w * cells sh) }
+    requires { IsCube sh cube.now }
     ensures { Decides ((q : ℕ) → from ≤ q → q < capacity sh → data_of sh cube.now q ≡ 0) result }
 {
-    match data::is_data_zero(cube, sh, from) {
-        Ok(zero) => zero,
-        Err(_) => false,
-    }
+    data::is_data_zero(cube, sh, from).unwrap_or(false)
 }

@@ -2,34 +2,32 @@
 ghost use Rattle.std.specs.Prelude.{◌≡◌};
 ghost use Rattle.answer.specs.Values.{Checked, passes};
 ghost use Rattle.field.specs.Field.{reduction};
+ghost use Rattle.pack.specs.declared.Header.{Header};
+ghost use Rattle.pack.specs.declared.Section.{Section};
 ghost use Rattle.receiver.specs.Gathering.{GatherOutcome};
 ghost use Rattle.receiver.specs.Inner.Gathering.{gathering_value, gathering_counts, Fits};
 
 use crate::{Counts, placing};
 use answer::{Fault, PacketFault, Refusal};
-use pack::{Header, Section};
+use pack::Packets;
 
 // Gathers the packets of a pack that was read: the cells left, none of a whole cube, and the counts of the pack. Every index is checked before
 // any packet is placed.
 pub(crate) fn gather(
-    air: &[u8],
+    packets: &Packets,
     cube: &mut [u8],
     flags: &mut [u8],
-    h: Header,
-    s: Section,
 ) -> Result<(usize, Counts), Refusal>
-    requires { Fits air.now h s cube.old flags.old }
-    ensures { (checks : Checked (Header × Section)) → checks ≡ passes (h, s)
-        → GatherOutcome reduction air.now checks cube.old flags.old cube.new flags.new (gathering_value result) (gathering_counts result) }
+    requires { Fits packets.now cube.old flags.old }
+    ensures { (checks : Checked (Header × Section)) → checks ≡ passes (packets.now.header, packets.now.section)
+        → GatherOutcome reduction packets.now.bytes.now checks cube.old flags.old cube.new flags.new (gathering_value result) (gathering_counts result) }
 {
-    let n = s.count;
-    let i = pack::first_outside(air, h, s);
-    if i < n {
+    if let Some(i) = packets.first_outside() {
         return Err(Refusal::Packet(PacketFault::CellIndex, i as u64));
     }
-    let counts = placing::place(air, cube, flags, h, s);
+    let counts = placing::place(packets, cube, flags);
     // Placed flags pass every check of filling: the only refusal that is left is 13.
-    let Ok(left) = fill::fill(cube, flags, h.shape) else {
+    let Ok(left) = fill::fill(cube, flags, packets.header.shape) else {
         return Err(Refusal::Plain(Fault::Contradiction));
     };
     Ok((left, counts))

@@ -11,6 +11,7 @@ ghost use Rattle.shape.specs.Shapes.{both};
 ghost use Rattle.receiver.specs.Receive.{received_value, received_counts, lent, ReceiveOutcome};
 
 use answer::{Fault, Refusal};
+use pack::Packets;
 use shape::Sizes;
 
 // How a pack ends that is not refused: in a file of so many bytes, or with so many cells left.
@@ -44,19 +45,24 @@ pub fn receive_pack(
 ) -> Result<Received, Refusal>
     ensures { ReceiveOutcome reduction air.now (lent cube.old flags.old buffer.old) (lent cube.new flags.new buffer.new) (received_value result) (received_counts result) }
 {
-    let (h, s) = pack::read_air(air)?;
-    let z = h.sizes;
+    let (header, section) = pack::read_air(air)?;
+    let z = header.sizes;
     if !slices_fit(z, cube.len(), flags.len(), buffer.len()) {
         return Err(Refusal::Plain(Fault::SliceLength));
     }
-    let (left, counts) = gathering::gather(air, cube, flags, h, s)?;
+    let packets = Packets {
+        bytes: air,
+        header,
+        section,
+    };
+    let (left, counts) = gathering::gather(&packets, cube, flags)?;
     if left != 0 {
         return Ok(Received {
             ending: Ending::Left(left),
             counts,
         });
     }
-    let length = file::open(cube, buffer, h.shape)?;
+    let length = file::open(cube, buffer, header.shape)?;
     Ok(Received {
         ending: Ending::File(length),
         counts,

@@ -2,118 +2,96 @@
 ghost use Rattle.std.specs.Prelude.{◌≡◌, true, false, ℕ, ◌*◌, ◌≤◌, ◌<◌, length};
 ghost use Rattle.span.specs.Span.{Copied, BothInside};
 ghost use Rattle.shape.specs.Shapes.{Valid, cells, data_cells};
+ghost use Rattle.data.specs.Data.{IsCube};
 ghost use Rattle.shape.specs.Inner.Marks.{is_marked, Remarked};
 ghost use Rattle.stopping.specs.Stopping.{number};
-ghost use Rattle.pack.specs.Packets.{Source, source, Named};
+ghost use Rattle.pack.specs.Packets.{Source, Named};
 ghost use Rattle.receiver.specs.Placing.{repeats_of, Placed};
 ghost use Rattle.receiver.specs.Gathering.{counts_of};
-ghost use Rattle.receiver.specs.Inner.Placing.{Placeable, Marked, Tried, Run, Stops};
+ghost use Rattle.receiver.specs.Inner.Placing.{sequence, AllNamed, Placeable, Marked, Tried, Run, Stops};
 
 use crate::Counts;
-use pack::{Header, Section};
-use shape::Shape;
+use pack::{Header, Packets};
+use shape::{Shape, flags};
 
 // Places all packets, and counts them.
-pub(crate) fn place(air: &[u8], cube: &mut [u8], flags: &mut [u8], h: Header, s: Section) -> Counts
-    requires { Valid h.shape × (h.used ≤ data_cells h.shape) × ((i : ℕ) → i < s.count → Named air.now h s i)
-        × (length cube.old ≡ h.shape.w * cells h.shape) × (length flags.old ≡ cells h.shape) }
-    ensures { Placed h (source air.now h s) s.count cube.new flags.new
-        × (result ≡ counts_of h.shape (source air.now h s)) }
+pub(crate) fn place(packets: &Packets, cube: &mut [u8], flags: &mut [u8]) -> Counts
+    requires { let h = packets.now.header in AllNamed packets.now
+        × IsCube h.shape cube.old × (length flags.old ≡ cells h.shape) × (h.used ≤ data_cells h.shape) }
+    ensures { let h = packets.now.header in Placed h (sequence packets.now) packets.now.section.count cube.new flags.new
+        × (result ≡ counts_of h.shape (sequence packets.now)) }
 {
-    begin(cube, flags, h);
-    let repeats = place_packets(air, cube, flags, h, s);
-    if repeats == 0 {
-        return Counts {
-            packets: s.count,
-            repeats: 0,
-            conflicts: 0,
-        };
-    }
+    begin(cube, flags, packets.header);
+    let repeats = place_packets(packets, cube, flags);
+    let conflicts = if repeats == 0 { 0 } else { settle(flags) };
     Counts {
-        packets: s.count,
+        packets: packets.section.count,
         repeats,
-        conflicts: settle(flags),
+        conflicts,
     }
 }
 
 // What stands before any packet: cells that are sent are missing, unsent ones are known and 00h. The flags are a cube of single bytes, so one call
 // finds the unsent cells in both.
 fn begin(cube: &mut [u8], flags: &mut [u8], h: Header)
-    requires { Valid h.shape × (h.used ≤ data_cells h.shape)
-        × (length cube.old ≡ h.shape.w * cells h.shape) × (length flags.old ≡ cells h.shape) }
+    requires { IsCube h.shape cube.old × (length flags.old ≡ cells h.shape) × (h.used ≤ data_cells h.shape) }
     ensures { (s : Source) → Marked h s 0 cube.new flags.new }
 {
     let sh = h.shape;
-    let cells = flags.len();
-    span::set(flags, 0, cells, 1);
-    let single = Shape {
-        l1: sh.l1,
-        l2: sh.l2,
-        l3: sh.l3,
-        w: 1,
-    };
+    flags.fill(flags::MISSING);
     // Both have the lengths of their shapes, so that neither call refuses.
-    let _ = data::set_data(flags, single, h.used, 2);
+    let _ = data::set_data(flags, Shape { w: 1, ..sh }, h.used, flags::UNSENT);
     let _ = data::set_data(cube, sh, h.used * sh.w, 0);
 }
 
-// Places one packet after another; the answer is the repeats. While packets are placed a flag is 1 where none came, 0 where all that came are
-// equal, 3 where two differ, and 2 where the cell is unsent. First packets and repeats mostly come in long runs, so each have a loop of their own.
-fn place_packets(air: &[u8], cube: &mut [u8], flags: &mut [u8], h: Header, s: Section) -> usize
-    requires { Placeable air.now h s 0 cube.old flags.old }
-    ensures { Marked h (source air.now h s) s.count cube.new flags.new
-        × (result ≡ repeats_of (source air.now h s) s.count) }
+// Places one packet after another; the answer is the repeats. While packets are placed a flag is `MISSING` where none came, `KNOWN` where all that came
+// are equal, `MARKED` where two differ, and `UNSENT` where the cell is unsent. First packets and repeats mostly come in long runs, so each have a loop of
+// their own.
+fn place_packets(packets: &Packets, cube: &mut [u8], flags: &mut [u8]) -> usize
+    requires { Placeable packets.now 0 cube.old flags.old }
+    ensures { Marked packets.now.header (sequence packets.now) packets.now.section.count cube.new flags.new
+        × (result ≡ repeats_of (sequence packets.now) packets.now.section.count) }
 {
-    let n = s.count;
+    let n = packets.section.count;
     let mut repeats = 0;
     // A turn goes over a run of packets, not over one.
-    let mut i = place_new(air, cube, flags, h, s, 0);
+    let mut i = place_new(packets, cube, flags, 0);
     while i < n {
-        let j = place_repeats(air, cube, flags, h, s, i);
+        let j = place_repeats(packets, cube, flags, i);
         repeats += j - i;
-        i = place_new(air, cube, flags, h, s, j);
+        i = place_new(packets, cube, flags, j);
     }
     repeats
 }
 
-// Places packets from one on, up to the first repeat: its index, or the count where there is none. The loop is told whether cells are single
-// bytes, so that the compiler makes two of it: of a single byte the copy of a span would cost more than all else.
-fn place_new(
-    air: &[u8],
-    cube: &mut [u8],
-    flags: &mut [u8],
-    h: Header,
-    s: Section,
-    from: usize,
-) -> usize
-    requires { Placeable air.now h s from cube.old flags.old }
-    ensures { Run h (source air.now h s) s.count from result cube.new flags.new 0
-        × Stops (source air.now h s) s.count result true }
+// Places packets from one on, up to the first repeat, and answers where this run ends and the next begins: an end, as the count is, and no number for none.
+// The loop is told whether cells are single bytes, so that the compiler makes two of it: of a single byte the copy of a span would cost more than all else.
+fn place_new(packets: &Packets, cube: &mut [u8], flags: &mut [u8], from: usize) -> usize
+    requires { Placeable packets.now from cube.old flags.old }
+    ensures { Run packets.now.header (sequence packets.now) packets.now.section.count from result cube.new flags.new 0
+        × Stops (sequence packets.now) packets.now.section.count result true }
 {
-    let sh = h.shape;
-    if sh.w == 1 {
-        place_firsts::<true>(air, cube, flags, h, s, from)
+    if packets.header.shape.w == 1 {
+        place_firsts::<true>(packets, cube, flags, from)
     } else {
-        place_firsts::<false>(air, cube, flags, h, s, from)
+        place_firsts::<false>(packets, cube, flags, from)
     }
 }
 
 fn place_firsts<const SINGLE: bool>(
-    air: &[u8],
+    packets: &Packets,
     cube: &mut [u8],
     flags: &mut [u8],
-    h: Header,
-    s: Section,
     from: usize,
 ) -> usize
-    requires placeable { Placeable air.now h s from cube.old flags.old }
-    requires w_value { SINGLE ≡ true → h.shape.w ≡ 1 }
-    ensures { Run h (source air.now h s) s.count from result cube.new flags.new 0
-        × Stops (source air.now h s) s.count result true }
+    requires placeable { Placeable packets.now from cube.old flags.old }
+    requires w_value { SINGLE ≡ true → packets.now.header.shape.w ≡ 1 }
+    ensures { Run packets.now.header (sequence packets.now) packets.now.section.count from result cube.new flags.new 0
+        × Stops (sequence packets.now) packets.now.section.count result true }
 {
-    let n = s.count;
+    let n = packets.section.count;
     for i in from..n {
-        if !place_first::<SINGLE>(air, cube, flags, h, s, i) {
+        if !place_first::<SINGLE>(packets, cube, flags, i) {
             return i;
         }
     }
@@ -122,26 +100,23 @@ fn place_firsts<const SINGLE: bool>(
 
 // Places the first packet of a cell. False, and nothing changed, where a copy came before.
 fn place_first<const SINGLE: bool>(
-    air: &[u8],
+    packets: &Packets,
     cube: &mut [u8],
     flags: &mut [u8],
-    h: Header,
-    s: Section,
     i: usize,
 ) -> bool
-    requires valid { Valid h.shape × Named air.now h s i × Marked h (source air.now h s) i cube.old flags.old }
-    requires w_value { SINGLE ≡ true → h.shape.w ≡ 1 }
-    ensures { Tried h (source air.now h s) i cube.old flags.old cube.new flags.new 0 true result }
+    requires valid { Valid packets.now.header.shape × Named packets.now.bytes.now packets.now.header packets.now.section i × Marked packets.now.header (sequence packets.now) i cube.old flags.old }
+    requires w_value { SINGLE ≡ true → packets.now.header.shape.w ≡ 1 }
+    ensures { Tried packets.now.header (sequence packets.now) i cube.old flags.old cube.new flags.new 0 true result }
 {
-    let sh = h.shape;
-    let Some((m, from)) = pack::packet(air, h, s, i) else {
+    let Some((m, from)) = packets.packet(i) else {
         return false;
     };
-    if flags[m] != 1 {
+    if flags[m] != flags::MISSING {
         return false;
     }
-    put::<SINGLE>(air, cube, from, m, sh.w);
-    flags[m] = 0;
+    put::<SINGLE>(packets.bytes, cube, from, m, packets.header.shape.w);
+    flags[m] = flags::KNOWN;
     true
 }
 
@@ -157,22 +132,16 @@ fn put<const SINGLE: bool>(air: &[u8], cube: &mut [u8], from: usize, m: usize, w
     }
 }
 
-// Goes through repeats from one on, up to the first packet of a cell: its index, or the count where there is none.
-fn place_repeats(
-    air: &[u8],
-    cube: &mut [u8],
-    flags: &mut [u8],
-    h: Header,
-    s: Section,
-    from: usize,
-) -> usize
-    requires { Placeable air.now h s from cube.old flags.old }
-    ensures { Run h (source air.now h s) s.count from result cube.new flags.new 1
-        × Stops (source air.now h s) s.count result false }
+// Goes through repeats from one on, up to the first packet of a cell, and answers where this run ends. It differs from `place_firsts` in the step that it
+// takes: one loop for both would be given the step as a closure over the lent cube and flags, which had to say all that the two contracts say.
+fn place_repeats(packets: &Packets, cube: &mut [u8], flags: &mut [u8], from: usize) -> usize
+    requires { Placeable packets.now from cube.old flags.old }
+    ensures { Run packets.now.header (sequence packets.now) packets.now.section.count from result cube.new flags.new 1
+        × Stops (sequence packets.now) packets.now.section.count result false }
 {
-    let n = s.count;
+    let n = packets.section.count;
     for i in from..n {
-        if !place_repeat(air, cube, flags, h, s, i) {
+        if !place_repeat(packets, cube, flags, i) {
             return i;
         }
     }
@@ -181,41 +150,33 @@ fn place_repeats(
 
 // Compares a repeat with the bytes of its cell, and marks the cell where they differ, which nothing takes back. False, and nothing changed, where
 // no copy came before.
-fn place_repeat(
-    air: &[u8],
-    cube: &mut [u8],
-    flags: &mut [u8],
-    h: Header,
-    s: Section,
-    i: usize,
-) -> bool
-    requires { Valid h.shape × Named air.now h s i × Marked h (source air.now h s) i cube.old flags.old }
-    ensures { Tried h (source air.now h s) i cube.old flags.old cube.new flags.new 1 false result }
+fn place_repeat(packets: &Packets, cube: &mut [u8], flags: &mut [u8], i: usize) -> bool
+    requires { Valid packets.now.header.shape × Named packets.now.bytes.now packets.now.header packets.now.section i × Marked packets.now.header (sequence packets.now) i cube.old flags.old }
+    ensures { Tried packets.now.header (sequence packets.now) i cube.old flags.old cube.new flags.new 1 false result }
 {
-    let sh = h.shape;
-    let w = sh.w;
-    let Some((m, from)) = pack::packet(air, h, s, i) else {
+    let w = packets.header.shape.w;
+    let Some((m, from)) = packets.packet(i) else {
         return false;
     };
-    if flags[m] == 1 {
+    if flags[m] == flags::MISSING {
         return false;
     }
-    if span::same(air, cube, from, m * w, w) {
+    if span::same(packets.bytes, cube, from, m * w, w) {
         return true;
     }
-    flags[m] = 3;
+    flags[m] = flags::MARKED;
     true
 }
 
-// Makes the marked cells missing; the answer is their number.
+// Makes the marked cells missing; the answer is their number. A filter whose count writes as it goes would be no plainer.
 fn settle(flags: &mut [u8]) -> usize
     ensures remarked { Remarked 1 flags.old flags.new }
     ensures value { result ≡ number (is_marked flags.old) (length flags.old) }
 {
     let mut conflicts = 0;
     for flag in flags.iter_mut() {
-        if *flag == 3 {
-            *flag = 1;
+        if *flag == flags::MARKED {
+            *flag = flags::MISSING;
             conflicts += 1;
         }
     }

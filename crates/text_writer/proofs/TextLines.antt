@@ -19,7 +19,7 @@ use Rattle.shape.specs.declared.Shape.{Shape}
 use Rattle.pack.specs.declared.Header.{Header}
 use Rattle.pack.specs.declared.Section.{Section}
 use Rattle.pack.specs.Packs.{Packet, up_from}
-use Rattle.pack.specs.Packets.{packet_at, packet_in, packets_in, Stands, PartsOutcome, FirstOutside}
+use Rattle.pack.specs.Packets.{packet_at, packet_in, packets_in, Stands, PartsOutcome}
 use Rattle.pack.specs.Reading.{packet_size, air_of, plain_air_of}
 use Rattle.pack.proofs.Sound.{air-sound}
 use Rattle.pack.proofs.Sent.{up_from-more}
@@ -280,9 +280,6 @@ module _ (p : List ℕ) (h : Header) (s : Section) (t u : List ℕ) (x : ℕ) (s
   text-whole v y lines = append-all t _ v y size (append-append t 0 _ u x _ v y first lines)
 
 -- ---- the checks
-
-pub outside-none : (p : List ℕ) (h : Header) (s : Section) (r : ℕ) → FirstOutside p h s r → s.count ≤ r → FirstOutside p h s s.count
-outside-none p h s r f l = let e : r ≡ s.count = omega (arith, f.bound) in subst (FirstOutside p h s) e f
 
 pub text-unread : (p before : List ℕ) (f : Refusal) → refusal {A = Header × Section} f ≡ checked (plain_air_of p)
     → WriteTextOutcome p before before (refusal f)

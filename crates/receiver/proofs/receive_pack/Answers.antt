@@ -13,29 +13,29 @@ use Rattle.receiver.proofs.receive_pack.Goals.{Else-not-slices_fit}
 
 -- the pack passes every check down to 4
 accepted : (c : Else-not-slices_fit) → receive_checked c.args.air.now (lent c.args.cube.now c.args.flags.now c.args.buffer.now)
-    ≡ passes (c.in_ok-h.h, c.in_ok-h.s)
+    ≡ passes (c.in_ok-header.header, c.in_ok-header.section)
 accepted c =
-    received-accepted _ _ _ _ _ c.read_air.ensures _ _ c.in_ok-h.was _ c.slices_fit.ensures c.if-not-slices_fit.false
+    received-accepted _ _ _ _ _ c.read_air.ensures _ _ c.in_ok-header.was _ c.slices_fit.ensures c.if-not-slices_fit.false
 
-pub returns-in_err-h : goal.returns-in_err-h
-returns-in_err-h c =
+pub returns-in_err-header : goal.returns-in_err-header
+returns-in_err-header c =
     let (f, is, same) = err_from_is_err_and c.from_residual.result c.from_residual.ensures.1 in
-    received-refused _ _ _ _ _ c.read_air.ensures _ _ c.in_err-h.was (is ∙ ap Err same)
+    received-refused _ _ _ _ _ c.read_air.ensures _ _ c.in_err-header.was (is ∙ ap Err same)
 
 pub slices_fit-requires : goal.slices_fit-requires
 unfolding sizes
 slices_fit-requires c =
-    let sound = air-sound _ _ _ (value-passed _ _ _ c.read_air.ensures c.in_ok-h.was) in
+    let sound = air-sound _ _ _ (value-passed _ _ _ c.read_air.ensures c.in_ok-header.was) in
     rw sound.header.measured sound.header.room
 
 pub returns-then-not-slices_fit : goal.returns-then-not-slices_fit
 returns-then-not-slices_fit c =
-    received-sizes _ _ _ _ _ c.read_air.ensures _ _ c.in_ok-h.was _ c.slices_fit.ensures c.if-not-slices_fit.true
+    received-sizes _ _ _ _ _ c.read_air.ensures _ _ c.in_ok-header.was _ c.slices_fit.ensures c.if-not-slices_fit.true
 
 pub gather-requires : goal.gather-requires
 gather-requires c =
     let ready = accepted-ready _ _ _ _ (accepted (goal.at.gather-requires c).Else-not-slices_fit) in
-    record { air = ready.air; valid = ready.valid; cube_size = ready.cube_size; flags_size = ready.flags_size }
+    record { air = ready.air; cube = record { valid = ready.valid; size = ready.cube_size }; flags_size = ready.flags_size }
 
 pub returns-in_err-left : goal.returns-in_err-left
 returns-in_err-left c =
@@ -49,7 +49,7 @@ returns-then-left-ne0 c =
 pub open-requires : goal.open-requires
 open-requires c =
     let ready = accepted-ready _ _ _ _ (accepted (goal.at.open-requires c).Else-not-slices_fit) in
-    (ready.valid, c.gather.auto.cube ∙ ready.cube_size, ready.room, ready.buffer_size)
+    (record { valid = ready.valid; size = c.gather.auto.cube ∙ ready.cube_size }, ready.room, ready.buffer_size)
 
 pub returns-in_err-length : goal.returns-in_err-length
 returns-in_err-length c =

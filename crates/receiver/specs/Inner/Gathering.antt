@@ -1,10 +1,10 @@
 -- What the functions that gather a pack ask and answer.
-use Rattle.std.specs.Prelude.{◌≡◌, cond, List, ℕ, ◌*◌, eqb, length, Result, Ok, Err}
+use Rattle.std.specs.Prelude.{◌≡◌, cond, List, ℕ, eqb, length, Result, Ok, Err}
 use Rattle.answer.specs.declared.Refusal.{Refusal}
 use Rattle.answer.specs.Values.{gives, passes, refusal}
-use Rattle.shape.specs.Shapes.{Valid, cells}
-use Rattle.pack.specs.declared.Header.{Header}
-use Rattle.pack.specs.declared.Section.{Section}
+use Rattle.shape.specs.Shapes.{cells}
+use Rattle.data.specs.Data.{IsCube}
+use Rattle.pack.specs.declared.packets.Packets.{Packets}
 use Rattle.pack.specs.Reading.{air_of}
 use Rattle.receiver.specs.declared.Counts.{Counts}
 use Rattle.receiver.specs.Gathering.{left, Gathered, ends, whole, no_counts}
@@ -19,8 +19,7 @@ gathering_counts (Ok a) = a.1
 gathering_counts (Err f) = no_counts
 
 -- a pack that was read, and a cube and flags of its lengths
-pub record Fits (p : List ℕ) (h : Header) (s : Section) (xs fs : List ℕ) : Type 0 where
-  pub air : air_of p ≡ passes (h, s)
-  pub valid : Valid h.shape
-  pub cube_size : length xs ≡ h.shape.w * cells h.shape
-  pub flags_size : length fs ≡ cells h.shape
+pub record Fits (k : Packets) (xs fs : List ℕ) : Type 0 where
+  pub air : air_of k.bytes.now ≡ passes (k.header, k.section)
+  pub cube : IsCube k.header.shape xs
+  pub flags_size : length fs ≡ cells k.header.shape

@@ -2,7 +2,7 @@
 use Rattle.std.specs.Prelude.{◌≡◌, Bool, true, false, cond, List, ℕ, ◌+◌, ◌-◌, ◌*◌, ◌≤◌, ◌<◌}
 use Rattle.shape.specs.Shapes.{Valid}
 use Rattle.pack.specs.declared.Header.{Header}
-use Rattle.pack.specs.declared.Section.{Section}
+use Rattle.pack.specs.declared.packets.Packets.{Packets}
 use Rattle.pack.specs.Packs.{unsent}
 use Rattle.pack.specs.Packets.{Source, source, Named}
 use Rattle.receiver.specs.Placing.{among, repeats_of, agreed, Standing}
@@ -15,12 +15,20 @@ mark_at h s n m = cond (unsent h m) 2 (cond (agreed h.shape s n m) 0 (cond (amon
 abbrev pub Marked : Header → Source → ℕ → List ℕ → List ℕ → Type 0
 Marked h s n = Standing h s n (mark_at h s n)
 
+-- the packets of a pack as a sequence
+abbrev pub sequence : Packets → Source
+sequence k = source k.bytes.now k.header k.section
+
+-- every packet names a cell that is sent
+abbrev pub AllNamed : Packets → Type 0
+AllNamed k = (i : ℕ) → i < k.section.count → Named k.bytes.now k.header k.section i
+
 -- What placing from packet i on asks for: every packet names a cell that is sent, and those before i are placed.
-pub record Placeable (p : List ℕ) (h : Header) (s : Section) (i : ℕ) (xs fs : List ℕ) : Type 0 where
-  pub valid : Valid h.shape
-  pub named : (k : ℕ) → k < s.count → Named p h s k
-  pub high : i ≤ s.count
-  pub marked : Marked h (source p h s) i xs fs
+pub record Placeable (k : Packets) (i : ℕ) (xs fs : List ℕ) : Type 0 where
+  pub valid : Valid k.header.shape
+  pub named : AllNamed k
+  pub high : i ≤ k.section.count
+  pub marked : Marked k.header (sequence k) i xs fs
 
 -- packet i placed, which adds so much to the repeats
 pub record Arrived (h : Header) (s : Source) (i : ℕ) (xs' fs' : List ℕ) (adds : ℕ) : Type 0 where

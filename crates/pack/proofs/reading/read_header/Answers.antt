@@ -46,6 +46,5 @@ returns c =
       sym c.is_count.ensures ∙ c.if-not-is_count.false,
       bytes_read _ _ _ _ c.bytes.ensures _ _ c.in_ok-at.was,
       ← c.shape_at.ensures,
-      ← c.given_at.ensures,
     )
-    c.headed.ensures
+    (c.headed.ensures _ c.given_at.ensures)

@@ -7,7 +7,7 @@ use Rattle.receiver.proofs.file.held_length.Goals as goal
 pub returns : goal.returns
 unfolding word
 returns c =
-    let copy = read_told _ _ _ _ _ _ _ _ c.requires.0 c.requires.1 c.requires.2 (omega arith) c.read_data.ensures in
+    let copy = read_told _ _ _ _ _ _ _ _ c.requires.0.valid c.requires.0.size c.requires.1 (omega arith) c.read_data.ensures in
     omega (
       arith,
       c.from_le_bytes.ensures,

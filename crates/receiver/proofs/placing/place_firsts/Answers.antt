@@ -12,8 +12,8 @@ use Rattle.receiver.proofs.placing.place_firsts.Goals.{Then-not-place_first}
 
 -- what stands once a packet was left
 left : (g : Over) (c : Then-not-place_first g)
-    → Run c.args.h (source c.args.air.now c.args.h c.args.s) c.args.s.count c.args.from c.loop-i.i c.place_first.new.cube c.place_first.new.flags 0
-    × (among (source c.args.air.now c.args.h c.args.s) c.loop-i.i ((source c.args.air.now c.args.h c.args.s).place c.loop-i.i) ≡ true)
+    → Run c.args.packets.now.header (source c.args.packets.now.bytes.now c.args.packets.now.header c.args.packets.now.section) c.args.packets.now.section.count c.args.from c.loop-i.i c.place_first.new.cube c.place_first.new.flags 0
+    × (among (source c.args.packets.now.bytes.now c.args.packets.now.header c.args.packets.now.section) c.loop-i.i ((source c.args.packets.now.bytes.now c.args.packets.now.header c.args.packets.now.section).place c.loop-i.i) ≡ true)
 left g c =
     run-left _ _ _ _ _ _ _ _ _ _ _ _ c.loop-i.invariant c.place_first.ensures c.if-not-place_first.true
 
@@ -37,5 +37,5 @@ loop-i-preserved g c =
 
 pub returns : goal.returns
 returns g c =
-    let all : c.loop-i.i ≡ c.args.s.count = omega (arith, c.loop-i.invariant.high) in
+    let all : c.loop-i.i ≡ c.args.packets.now.section.count = omega (arith, c.loop-i.invariant.high) in
     (rw all at c.loop-i.invariant, λ less. absurd (omega arith))

@@ -4,4 +4,4 @@ use Rattle.receiver.specs.Inner.Placing.{Run}
 use Rattle.receiver.proofs.placing.place_firsts.Given as goal
 
 abbrev pub invariant-loop-i : goal.invariant-loop-i
-invariant-loop-i g l = Run l.h (source l.air l.h l.s) l.s.count l.from l.i l.cube l.flags 0
+invariant-loop-i g l = Run l.packets.header (source l.packets.bytes.now l.packets.header l.packets.section) l.packets.section.count l.from l.i l.cube l.flags 0

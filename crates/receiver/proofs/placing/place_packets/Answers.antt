@@ -16,7 +16,7 @@ moves p =
 pub loop-i-init : goal.loop-i-init
 loop-i-init c =
     let (run, repeat) = c.place_new-i.ensures in
-    (run.high, run.marked, omega (arith, run.repeats, repeats-none (source c.args.air.now c.args.h c.args.s)), repeat)
+    (run.high, run.marked, omega (arith, run.repeats, repeats-none (source c.args.packets.now.bytes.now c.args.packets.now.header c.args.packets.now.section)), repeat)
 
 pub place_repeats-j-requires : goal.place_repeats-j-requires
 place_repeats-j-requires c =
@@ -34,7 +34,7 @@ overflow_add-repeats c =
       run.low,
       run.repeats,
       c.loop-i.invariant.2,
-      repeats-le ((source c.args.air.now c.args.h c.args.s)) c.place_repeats-j.result,
+      repeats-le ((source c.args.packets.now.bytes.now c.args.packets.now.header c.args.packets.now.section)) c.place_repeats-j.result,
       c.place_repeats-j.type_inv,
     )
 
@@ -57,5 +57,5 @@ loop-i-preserved c =
 pub returns : goal.returns
 returns c =
     let inv = c.loop-i.invariant in
-    let all : c.loop-i.i ≡ c.args.s.count = omega (arith, inv.0) in
+    let all : c.loop-i.i ≡ c.args.packets.now.section.count = omega (arith, inv.0) in
     (rw all at inv.1, rw all at inv.2)

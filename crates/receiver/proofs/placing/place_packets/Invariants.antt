@@ -9,7 +9,7 @@ use Rattle.receiver.proofs.placing.place_packets.Given as goal
 
 abbrev pub invariant-loop-i : goal.invariant-loop-i
 invariant-loop-i l =
-    (l.i ≤ l.s.count) × Marked l.h (source l.air l.h l.s) l.i l.cube l.flags × (l.repeats ≡ repeats_of (source l.air l.h l.s) l.i) × Stops (source l.air l.h l.s) l.s.count l.i true
+    (l.i ≤ l.packets.section.count) × Marked l.packets.header (source l.packets.bytes.now l.packets.header l.packets.section) l.i l.cube l.flags × (l.repeats ≡ repeats_of (source l.packets.bytes.now l.packets.header l.packets.section) l.i) × Stops (source l.packets.bytes.now l.packets.header l.packets.section) l.packets.section.count l.i true
 
 abbrev pub decreases-loop-i : goal.decreases-loop-i
-decreases-loop-i l = l.s.count - l.i
+decreases-loop-i l = l.packets.section.count - l.i

@@ -13,15 +13,15 @@ use Rattle.receiver.proofs.Arrivals.{cell-inside, is-first, arrived-same, arrive
 use Rattle.receiver.proofs.placing.place_repeat.Goals as goal
 use Rattle.receiver.proofs.placing.place_repeat.Goals.{In-Some}
 
-told : (c : In-Some) → Told c.args.air.now c.args.h c.args.s c.args.i c.in-Some.m c.in-Some.from
+told : (c : In-Some) → Told c.args.packets.now.bytes.now c.args.packets.now.header c.args.packets.now.section c.args.i c.in-Some.m c.in-Some.from
 told c = packet-told _ _ _ _ _ _ _ c.packet.ensures c.in-Some.is
 
-below : (c : In-Some) → c.in-Some.m < cells c.args.h.shape
+below : (c : In-Some) → c.in-Some.m < cells c.args.packets.now.header.shape
 below c = let cell = place_lt _ _ _ _ c.requires.1.range in omega (arith, (told c).cell)
 
 -- it is sent
 sent : (c : In-Some)
-    → unsent c.args.h ((source c.args.air.now c.args.h c.args.s).place c.args.i) ≡ false
+    → unsent c.args.packets.now.header ((source c.args.packets.now.bytes.now c.args.packets.now.header c.args.packets.now.section).place c.args.i) ≡ false
 sent c = place-sent _ _ _ _ c.requires.1.range
 
 -- the flag and the bytes of the cell lie inside
@@ -29,7 +29,7 @@ flag-inside : (c : In-Some) → c.in-Some.m < length c.args.flags.now
 flag-inside c = omega (arith, below c, c.requires.2.flags_size)
 
 inside : (c : In-Some)
-    → BothInside c.args.air.now c.in-Some.from c.args.cube.now (c.in-Some.m * c.args.h.shape.w) c.args.h.shape.w
+    → BothInside c.args.packets.now.bytes.now c.in-Some.from c.args.cube.now (c.in-Some.m * c.args.packets.now.header.shape.w) c.args.packets.now.header.shape.w
 inside c = ((told c).inside, cell-inside _ _ _ (below c) c.requires.2.cube_size)
 
 pub returns-in_default : goal.returns-in_default
@@ -39,9 +39,9 @@ returns-in_default c =
 pub bounds-flags-m : goal.bounds-flags-m
 bounds-flags-m c = flag-inside (goal.at.bounds-flags-m c).In-Some
 
-pub returns-then-flags-m-eq1 : goal.returns-then-flags-m-eq1
-returns-then-flags-m-eq1 c =
-    tried_other _ _ _ _ _ _ _ (is-first _ _ _ _ _ c.requires.2 _ (told (goal.at.returns-then-flags-m-eq1 c).In-Some).cell (below (goal.at.returns-then-flags-m-eq1 c).In-Some) (sent (goal.at.returns-then-flags-m-eq1 c).In-Some) c.if-flags-m-eq1.true)
+pub returns-then-flags-m-eq-MISSING : goal.returns-then-flags-m-eq-MISSING
+returns-then-flags-m-eq-MISSING c =
+    tried_other _ _ _ _ _ _ _ (is-first _ _ _ _ _ c.requires.2 _ (told (goal.at.returns-then-flags-m-eq-MISSING c).In-Some).cell (below (goal.at.returns-then-flags-m-eq-MISSING c).In-Some) (sent (goal.at.returns-then-flags-m-eq-MISSING c).In-Some) c.if-flags-m-eq-MISSING.true)
 
 pub overflow_mul-m : goal.overflow_mul-m
 overflow_mul-m c = omega (arith, (inside (goal.at.overflow_mul-m c).In-Some).1)
@@ -49,7 +49,7 @@ overflow_mul-m c = omega (arith, (inside (goal.at.overflow_mul-m c).In-Some).1)
 pub returns-then-same : goal.returns-then-same
 returns-then-same c =
     tried-placed _ _ _ _ _ _ _ _ _
-    (arrived-same _ _ _ _ _ c.requires.2 _ (told (goal.at.returns-then-same c).In-Some).cell (below (goal.at.returns-then-same c).In-Some) (sent (goal.at.returns-then-same c).In-Some) _ _ (λ w l. (told (goal.at.returns-then-same c).In-Some).byte w) c.if-flags-m-eq1.false _ c.same.ensures (inside (goal.at.returns-then-same c).In-Some) c.if-same.true)
+    (arrived-same _ _ _ _ _ c.requires.2 _ (told (goal.at.returns-then-same c).In-Some).cell (below (goal.at.returns-then-same c).In-Some) (sent (goal.at.returns-then-same c).In-Some) _ _ (λ w l. (told (goal.at.returns-then-same c).In-Some).byte w) c.if-flags-m-eq-MISSING.false _ c.same.ensures (inside (goal.at.returns-then-same c).In-Some) c.if-same.true)
 
 pub bounds-flags-m-2 : goal.bounds-flags-m-2
 bounds-flags-m-2 c = flag-inside (goal.at.bounds-flags-m-2 c).In-Some
@@ -57,4 +57,4 @@ bounds-flags-m-2 c = flag-inside (goal.at.bounds-flags-m-2 c).In-Some
 pub returns : goal.returns
 returns c =
     tried-placed _ _ _ _ _ _ _ _ _
-    (arrived-other _ _ _ _ _ c.requires.2 _ (told (goal.at.returns c).In-Some).cell (below (goal.at.returns c).In-Some) (sent (goal.at.returns c).In-Some) _ _ (λ w l. (told (goal.at.returns c).In-Some).byte w) c.if-flags-m-eq1.false _ c.same.ensures (inside (goal.at.returns c).In-Some) c.if-same.false)
+    (arrived-other _ _ _ _ _ c.requires.2 _ (told (goal.at.returns c).In-Some).cell (below (goal.at.returns c).In-Some) (sent (goal.at.returns c).In-Some) _ _ (λ w l. (told (goal.at.returns c).In-Some).byte w) c.if-flags-m-eq-MISSING.false _ c.same.ensures (inside (goal.at.returns c).In-Some) c.if-same.false)

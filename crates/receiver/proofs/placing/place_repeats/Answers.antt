@@ -11,8 +11,8 @@ use Rattle.receiver.proofs.placing.place_repeats.Goals.{Then-not-place_repeat}
 
 -- what stands once a packet was left
 left : (c : Then-not-place_repeat)
-    → Run c.args.h (source c.args.air.now c.args.h c.args.s) c.args.s.count c.args.from c.loop-i.i c.place_repeat.new.cube c.place_repeat.new.flags 1
-    × (among (source c.args.air.now c.args.h c.args.s) c.loop-i.i ((source c.args.air.now c.args.h c.args.s).place c.loop-i.i) ≡ false)
+    → Run c.args.packets.now.header (source c.args.packets.now.bytes.now c.args.packets.now.header c.args.packets.now.section) c.args.packets.now.section.count c.args.from c.loop-i.i c.place_repeat.new.cube c.place_repeat.new.flags 1
+    × (among (source c.args.packets.now.bytes.now c.args.packets.now.header c.args.packets.now.section) c.loop-i.i ((source c.args.packets.now.bytes.now c.args.packets.now.header c.args.packets.now.section).place c.loop-i.i) ≡ false)
 left c =
     run-left _ _ _ _ _ _ _ _ _ _ _ _ c.loop-i.invariant c.place_repeat.ensures c.if-not-place_repeat.true
 
@@ -33,5 +33,5 @@ loop-i-preserved c =
 
 pub returns : goal.returns
 returns c =
-    let all : c.loop-i.i ≡ c.args.s.count = omega (arith, c.loop-i.invariant.high) in
+    let all : c.loop-i.i ≡ c.args.packets.now.section.count = omega (arith, c.loop-i.invariant.high) in
     (rw all at c.loop-i.invariant, λ less. absurd (omega arith))

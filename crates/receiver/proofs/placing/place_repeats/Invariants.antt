@@ -4,4 +4,4 @@ use Rattle.receiver.specs.Inner.Placing.{Run}
 use Rattle.receiver.proofs.placing.place_repeats.Given as goal
 
 abbrev pub invariant-loop-i : goal.invariant-loop-i
-invariant-loop-i l = Run l.h (source l.air l.h l.s) l.s.count l.from l.i l.cube l.flags 1
+invariant-loop-i l = Run l.packets.header (source l.packets.bytes.now l.packets.header l.packets.section) l.packets.section.count l.from l.i l.cube l.flags 1

@@ -13,4 +13,4 @@ pub loop-i-preserved : goal.loop-i-preserved
 loop-i-preserved c = lines_more _ _ _ _ _ _ _ _ c.loop-i.invariant _ _ c.append_packet-at.ensures
 
 pub returns : goal.returns
-returns c = let a = c.args.self.now in lines-all a.bytes.now a.h a.s _ _ _ c.loop-i.i _ (omega arith) c.loop-i.invariant
+returns c = let a = c.args.self.now.packets in lines-all a.bytes.now a.header a.section _ _ _ c.loop-i.i _ (omega arith) c.loop-i.invariant

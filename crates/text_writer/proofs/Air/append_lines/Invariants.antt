@@ -5,4 +5,4 @@ use Rattle.text_writer.proofs.TextLines.{lines_to}
 use Rattle.text_writer.proofs.Air.append_lines.Given as goal
 
 abbrev pub invariant-loop-i : goal.invariant-loop-i
-invariant-loop-i l = Appended l.initial.text l.from (lines_to (packet_in l.self.bytes.now l.self.h l.self.s) l.i) l.text l.at
+invariant-loop-i l = Appended l.initial.text l.from (lines_to (packet_in l.self.packets.bytes.now l.self.packets.header l.self.packets.section) l.i) l.text l.at

@@ -13,13 +13,13 @@ use Rattle.text_writer.proofs.Air.line_length.Goals as goal
 
 pub returns-in_default : goal.returns-in_default
 returns-in_default c =
-    let read : air_of c.args.self.now.bytes.now ≡ passes (c.args.self.now.h, c.args.self.now.s) = search (plain-air, rules) in
-    absurd (no-parts _ _ _ read _ c.requires _ c.packet_parts.ensures c.in_default.is)
+    let read : air_of c.args.self.now.packets.bytes.now ≡ passes (c.args.self.now.packets.header, c.args.self.now.packets.section) = search (plain-air, rules) in
+    absurd (no-parts _ _ _ read _ c.requires _ c.parts.ensures c.in_default.is)
 
 pub returns : goal.returns
 returns c =
-    let read : air_of c.args.self.now.bytes.now ≡ passes (c.args.self.now.h, c.args.self.now.s) = search (plain-air, rules) in
-    let same = line-length _ _ _ read _ c.requires _ c.packet_parts.ensures _ _ _ _ _ _ _ c.in-Some.is
+    let read : air_of c.args.self.now.packets.bytes.now ≡ passes (c.args.self.now.packets.header, c.args.self.now.packets.section) = search (plain-air, rules) in
+    let same = line-length _ _ _ read _ c.requires _ c.parts.ensures _ _ _ _ _ _ _ c.in-Some.is
     (c.decimal_length.ensures.0 ∙ ap (λ (n : ℕ). length (decimal n)) c.from.ensures)
     (c.decimal_length-2.ensures.0 ∙ ap (λ (n : ℕ). length (decimal n)) c.from-2.ensures)
     (c.decimal_length-3.ensures.0 ∙ ap (λ (n : ℕ). length (decimal n)) c.from-3.ensures) in

@@ -13,25 +13,25 @@ use Rattle.text_writer.proofs.Air.text_length.Goals as goal
 
 pub first_length-len-requires : goal.first_length-len-requires
 first_length-len-requires c =
-    let read : air_of c.args.self.now.bytes.now ≡ passes (c.args.self.now.h, c.args.self.now.s) = search (plain-air, rules) in
+    let read : air_of c.args.self.now.packets.bytes.now ≡ passes (c.args.self.now.packets.header, c.args.self.now.packets.section) = search (plain-air, rules) in
     (air-sound _ _ _ read).header.valid
 
 pub loop-i-init : goal.loop-i-init
 unfolding lines_to
-loop-i-init c = (omega (arith, c.first_length-len.ensures), omega (arith, c.first_length-len.ensures, first_line-le c.args.self.now.h.shape))
+loop-i-init c = (omega (arith, c.first_length-len.ensures), omega (arith, c.first_length-len.ensures, first_line-le c.args.self.now.packets.header.shape))
 
 pub overflow_add-len : goal.overflow_add-len
 overflow_add-len c = omega (arith, c.args.self.now.few, c.line_length-len.ensures.1)
 
 pub loop-i-preserved : goal.loop-i-preserved
 loop-i-preserved c =
-    let a = c.args.self.now in
-    let more = lines_to-more (packet_in a.bytes.now a.h a.s) c.loop-i.i in
+    let a = c.args.self.now.packets in
+    let more = lines_to-more (packet_in a.bytes.now a.header a.section) c.loop-i.i in
     (omega (arith, c.line_length-len.ensures.0), omega (arith, c.line_length-len.ensures.1))
 
 pub returns : goal.returns
 returns c =
-    let a = c.args.self.now in
-    let all : c.loop-i.i ≡ a.s.count = omega arith in
-    let k = packet_in a.bytes.now a.h a.s in
-    omega (arith, text_in-length a.bytes.now a.h a.s, ap (λ (n : ℕ). length (lines_to k n)) all)
+    let a = c.args.self.now.packets in
+    let all : c.loop-i.i ≡ a.section.count = omega arith in
+    let k = packet_in a.bytes.now a.header a.section in
+    omega (arith, text_in-length a.bytes.now a.header a.section, ap (λ (n : ℕ). length (lines_to k n)) all)

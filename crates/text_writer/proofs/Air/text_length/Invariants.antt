@@ -9,4 +9,4 @@ use Rattle.text_writer.proofs.Air.text_length.Given as goal
 
 abbrev pub invariant-loop-i : goal.invariant-loop-i
 invariant-loop-i l =
-    (l.len ≡ length (first_line l.self.h.shape) + length (lines_to (packet_in l.self.bytes.now l.self.h l.self.s) l.i)) × (l.len ≤ 90 + 3142 * l.i)
+    (l.len ≡ length (first_line l.self.packets.header.shape) + length (lines_to (packet_in l.self.packets.bytes.now l.self.packets.header l.self.packets.section) l.i)) × (l.len ≤ 90 + 3142 * l.i)

@@ -1,8 +1,8 @@
--- `pack::packets::packet_parts` meets its contract. Assumes nothing.
+-- `pack::packets::Packets::parts` meets its contract. Assumes nothing.
 use mathlib.Core.Path.{sym, ◌∙◌}
 use native.Mathlib.Omega.{arith}
 use Rattle.pack.proofs.Naming.{limits-parts, parts-beyond-limits, parts-beyond-pack, parts-stand}
-use Rattle.pack.proofs.packets.packet_parts.Goals as goal
+use Rattle.pack.proofs.packets.Packets.parts.Goals as goal
 
 pub returns-then-not-within_limits : goal.returns-then-not-within_limits
 returns-then-not-within_limits c = parts-beyond-limits _ _ _ _ (sym c.within_limits.ensures ∙ c.if-not-within_limits.true)
