@@ -8,7 +8,7 @@ use answer::Refusal;
 
 // The closures, then the fibres, then the splices: a section is judged once those before it keep their rules.
 pub(crate) fn check(closures: &[u8], fibres: &[u8], splices: &[u8]) -> Result<(), Refusal>
-    ensures { FormOutcome (plan_of (lists closures.now fibres.now splices.now)) (plan_end (counts_of (lists closures.now fibres.now splices.now))) tt (value_of result) }
+    ensures { let l = lists closures.now fibres.now splices.now in FormOutcome (plan_of l) (plan_end (counts_of l)) tt (value_of result) }
 {
     let c = listed(closures);
     let f = listed(fibres);

@@ -11,9 +11,6 @@ returns-in_err-passed c =
     let (l, e) = c.in_err-passed.ensures in
     handed-broken _ _ _ _ _ _ _ c.from_residual.ensures.1 e refl (closures-broken-listed _ _ _ c.listed-c.ensures c.kept.ensures l)
 
-pub passed-requires-2 : goal.passed-requires-2
-passed-requires-2 c l = omega (arith, c.listed-c.ensures, c.listed-f.ensures)
-
 pub returns-in_err-passed-2 : goal.returns-in_err-passed-2
 returns-in_err-passed-2 c =
     let (l, e) = c.in_err-passed-2.ensures in
