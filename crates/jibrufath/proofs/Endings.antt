@@ -1,5 +1,6 @@
 -- The receiver's endings as words, and refusals without a file or entries.
-use Rattle.std.specs.Prelude.{Result, Err}
+use Rattle.std.specs.Prelude.{unwrap_or, Result, Ok, Err}
+use Rattle.std.specs.Result.{result_ok}
 use mathlib.Core.Path.{◌≡◌, refl, sym, ap}
 use Prim.Native.Nat.{ℕ, ◌*◌}
 use mathlib.Core.List.{◌∷◌}
@@ -14,7 +15,8 @@ use Rattle.receiver.specs.Gathering.{no_counts}
 use Rattle.receiver.specs.Receive.{reception_of}
 use Rattle.jibrufath.specs.Exports.{beside, packed}
 use Rattle.jibrufath.specs.Packs.{reception_left, file_bytes, places}
-use Rattle.jibrufath.specs.Plans.{entries_in}
+use Rattle.plan.specs.Receiving.{no_entries}
+use Rattle.jibrufath.specs.Plans.{entry_places, entries_in}
 use Rattle.jibrufath.proofs.Words.{packed-result}
 
 module _ (e : Ending) where
@@ -50,6 +52,7 @@ entries_none (Packet f i) = refl
 entries_none (Line n) = refl
 entries_none (Entry n) = refl
 
-pub refused-entries : (read : Result PlanCounts Refusal) (f : Refusal) → read ≡ Err f → replicate 3 0 ≡ entries_in (value_of read)
-unfolding value_of
-refused-entries read f q = rw q (entries_none f)
+pub entries-read : (read : Result PlanCounts Refusal) → entry_places (unwrap_or (result_ok read) no_entries) ≡ entries_in (value_of read)
+unfolding value_of entry_places entries_in no_entries
+entries-read (Ok n) = refl
+entries-read (Err f) = entries_none f

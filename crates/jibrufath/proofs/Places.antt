@@ -1,18 +1,19 @@
 -- What comes with a number: all calls but the receiver name no place, so that the word of a refusal is its number; the receiver names one
 -- below 2^45.
 use mathlib.Core.Path.{◌≡◌, refl, sym}
-use mathlib.Core.Bool.{Bool}
+use Rattle.std.specs.Prelude.{Result, Ok, Err}
+use mathlib.Core.Bool.{Bool, true, false}
 use mathlib.Core.List.{List}
 use Prim.Native.Nat.{ℕ, ◌^◌, ◌<◌}
 use native.Mathlib.Omega.{arith}
 use lib.ListN.{get_or}
 use Rattle.answer.specs.declared.Refusal.{Refusal}
-use Rattle.answer.specs.Values.{Value, refusal}
+use Rattle.answer.specs.Values.{Value, refusal, value_of, number_of}
 use Rattle.answer.proofs.Values.{refusal-gives}
 use Rattle.shape.specs.declared.Shape.{Shape}
 use Rattle.data.specs.Calls.{ExtractOutcome}
 use Rattle.cube.specs.Calls.{EncodeOutcome, CheckOutcome}
-use Rattle.fill.specs.Fill.{CellsLeft, FillOutcome}
+use Rattle.fill.specs.Fill.{CellsLeft, FillOutcome, fill_value}
 use Rattle.mend.specs.Mend.{AxisOutcome, MendOutcome}
 use Rattle.writer.specs.Write.{WriteOutcome}
 use Rattle.fill.proofs.Recovery.{left_le}
@@ -22,7 +23,8 @@ use Rattle.receiver.specs.Gathering.{Reception, unfit, index, contradiction, som
 use Rattle.receiver.specs.Receive.{Memory, ReceiveOutcome, unopened, bad_file, opened}
 use Rattle.receiver.proofs.Outcomes.{accepted-ready}
 use Rattle.jibrufath.specs.Packs.{reception_left}
-use Rattle.jibrufath.specs.Exports.{beside, uncounted, truth, cells_left}
+use Rattle.jibrufath.specs.Exports.{beside, packed, uncounted, truth, cells_left, whole}
+use Rattle.jibrufath.proofs.Words.{refusal-number, refusal-beside}
 
 pub encode-places : {r : ℕ} {sh : Shape} {ds xs xs' : List ℕ} {v : Value Unit} → EncodeOutcome r sh ds xs xs' v → beside uncounted v ≡ 0
 unfolding beside uncounted
@@ -34,17 +36,29 @@ unfolding beside uncounted
 extract-places (ExtractOutcome.extract_refused _ _ _) = refl
 extract-places (ExtractOutcome.extract_done _ _) = refl
 
-pub check-places : {r : ℕ} {sh : Shape} {xs : List ℕ} {v : Value Bool} (f : Refusal) → CheckOutcome r sh xs v → v ≡ refusal f → beside truth v ≡ 0
-unfolding beside
-check-places f (CheckOutcome.check_refused _ _) e = refl
-check-places f (CheckOutcome.check_done b _ _) e = absurd (refusal-gives f b (sym e))
+pub check-lt : {r : ℕ} {sh : Shape} {xs : List ℕ} {v : Value Bool} → CheckOutcome r sh xs v → beside truth v < 2 ^ 45
+unfolding beside truth
+check-lt (CheckOutcome.check_refused _ _) = omega arith
+check-lt (CheckOutcome.check_done true _ _) = omega arith
+check-lt (CheckOutcome.check_done false _ _) = omega arith
 
-pub fill-places : {r : ℕ} {sh : Shape} {xs fs xs' fs' : List ℕ} {v : Value CellsLeft} (f : Refusal) → FillOutcome r sh xs fs xs' fs' v → v ≡ refusal f
+-- the number that filling answers counts the cells left
+pub fill-packed : (a : Result ℕ Refusal) → packed whole (value_of a) ≡ packed cells_left (fill_value a)
+unfolding packed number_of beside whole cells_left value_of fill_value
+fill-packed (Ok n) = refl
+fill-packed (Err f) = rw (refusal-number ℕ f, refusal-number CellsLeft f, refusal-beside whole f, refusal-beside cells_left f)
+
+fill-places : {r : ℕ} {sh : Shape} {xs fs xs' fs' : List ℕ} {v : Value CellsLeft} (f : Refusal) → FillOutcome r sh xs fs xs' fs' v → v ≡ refusal f
     → beside cells_left v ≡ 0
 unfolding beside
 fill-places f (FillOutcome.fill_refused _ _ _ _) e = refl
 fill-places f (FillOutcome.fill_done _ _ _ _) e = absurd (refusal-gives f _ (sym e))
 fill-places f (FillOutcome.fill_contradiction _ _ _ _ _ _) e = refl
+
+pub fill-lt : {r : ℕ} {sh : Shape} {xs fs xs' fs' : List ℕ} (a : Result ℕ Refusal) → FillOutcome r sh xs fs xs' fs' (fill_value a) → beside whole (value_of a) < 2 ^ 45
+unfolding beside whole value_of fill_value
+fill-lt (Ok n) o = omega (arith, left_le o)
+fill-lt (Err f) o = rw (refusal-beside whole f, ← refusal-beside cells_left f, fill-places f o refl) (omega arith)
 
 pub axis-places : {r : ℕ} {sh : Shape} {axis : ℕ} {xs xs' : List ℕ} {v : Value Unit} → AxisOutcome r sh axis xs xs' v → beside uncounted v ≡ 0
 unfolding beside uncounted

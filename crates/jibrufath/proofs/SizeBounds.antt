@@ -1,7 +1,9 @@
 -- Sizes of a shape that passes its checks, times 256, fit a machine word.
 use Rattle.std.specs.Prelude.{Result, Ok, Err, MatchResult, IsOkAnd}
 use mathlib.Core.Path.{◌≡◌, sym, ap, ◌∙◌}
+use mathlib.Core.Bool.{Bool, true, false}
 use mathlib.Core.List.{[], ◌∷◌}
+use mir.Val.{bool_byte as from_bool}
 use Prim.Native.Nat.{ℕ, ◌+◌, ◌-◌, ◌^◌, ◌≤◌, ◌<◌}
 use native.Mathlib.Nat.{mul-le-mul}
 use native.Mathlib.Omega.{arith}
@@ -19,7 +21,7 @@ use Rattle.pack.specs.Reading.{header_with, header_for}
 use Rattle.pack.proofs.Sound.{cells_le}
 use Rattle.pack.specs.declared.Header.{Header}
 use Rattle.pack_writer.specs.Writing.{size_checked}
-use Rattle.jibrufath.specs.Exports.{whole, beside, packed}
+use Rattle.jibrufath.specs.Exports.{whole, beside, packed, truth}
 use Rattle.jibrufath.specs.Needs.{needs_of}
 use Rattle.jibrufath.proofs.Words.{refusal-number, refusal-beside, checked-below}
 
@@ -39,30 +41,36 @@ sizes-bounded sh z e =
       capacity_le = rw same (bytes_le _ _ v.w_high volume);
     }
 
--- ---- one size, taken out of what `measure` answers
+-- ---- a count, taken out of what a call answers
 
--- its word carries the size of the sizes, where a call of the closure answers that
-size-taken : (size : Sizes → ℕ) (Call : Sizes → ℕ → Type 0) (r : Result Sizes Refusal) (m : Result ℕ Refusal)
-    → ((z : Sizes) (n : ℕ) → Call z n → n ≡ size z) → MatchResult r (λ z. IsOkAnd m (Call z)) (λ f. m ≡ Err f)
+-- its word carries the count, where a call of the closure answers that
+pub size-taken : {B : Type 0} (size : B → ℕ) (Call : B → ℕ → Type 0) (r : Result B Refusal) (m : Result ℕ Refusal)
+    → MatchResult r (λ z. IsOkAnd m (Call z)) (λ f. m ≡ Err f) → ((z : B) (n : ℕ) → Call z n → n ≡ size z)
     → (packed whole (value_of m) ≡ packed size (value_of r)) × (beside whole (value_of m) ≡ beside size (value_of r))
 unfolding packed beside whole value_of number_of
-size-taken size Call (Ok z) (Ok n) call h = let e = call z n h in (rw e, e)
-size-taken size Call (Ok z) (Err f) call h = absurd h
-size-taken size Call (Err f) m call h =
+size-taken size Call (Ok z) (Ok n) h call = let e = call z n h in (rw e, e)
+size-taken size Call (Ok z) (Err f) h call = absurd h
+size-taken {B} size Call (Err f) m h call =
     let above = refusal-beside whole f ∙ sym (refusal-beside size f) in
-    let number = refusal-number ℕ f ∙ sym (refusal-number Sizes f) in
+    let number = refusal-number ℕ f ∙ sym (refusal-number B f) in
     (rw (h, number, above), rw h above)
+
+-- 1 for true, 0 for false
+pub truth-from : (b : Bool) (n : ℕ) → n ≡ from_bool b → n ≡ truth b
+unfolding truth
+truth-from true n e = e
+truth-from false n e = e
 
 module _ (size : Sizes → ℕ) (Call : Sizes → ℕ → Type 0) (sh : Shape) (r : Result Sizes Refusal) (m : Result ℕ Refusal)
     (measured : value_of r ≡ checked (shape_checked sh)) (taken : MatchResult r (λ z. IsOkAnd m (Call z)) (λ f. m ≡ Err f))
     (call : (z : Sizes) (n : ℕ) → Call z n → n ≡ size z) where
   pub size-lt : ((z : Sizes) → Bounded z → size z < 2 ^ 45) → beside whole (value_of m) < 2 ^ 45
   size-lt small =
-      rw ((size-taken size Call r m call taken).1, measured)
+      rw ((size-taken size Call r m taken call).1, measured)
       (checked-below size (shape_checked sh) (2 ^ 45) (omega arith) (λ z e. small z (sizes-bounded sh z e)))
 
   pub size-packed : packed whole (value_of m) ≡ packed size (checked (shape_checked sh))
-  size-packed = (size-taken size Call r m call taken).0 ∙ ap (packed size) measured
+  size-packed = (size-taken size Call r m taken call).0 ∙ ap (packed size) measured
 
 -- ---- the size of a pack
 

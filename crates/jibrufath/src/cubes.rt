@@ -53,10 +53,7 @@ pub extern "C" fn jibrufath_fill(
     ensures { Exported cells_left (FillOutcome reduction (shape l1 l2 l3 w) cube.old flags.old cube.new flags.new) result }
 {
     let sh = Shape { l1, l2, l3, w };
-    match fill::fill(cube, flags, sh) {
-        Ok(n) => 256 * (n as u64),
-        Err(f) => answer::number(f),
-    }
+    crate::size_word(fill::fill(cube, flags, sh))
 }
 
 // One pass along an axis: on each line, in each layer, the one wrong byte that the two sums point to is put right.
@@ -104,8 +101,5 @@ pub extern "C" fn jibrufath_is_code_cube(
     ensures { Exported truth (CheckOutcome reduction (shape l1 l2 l3 w) cube.now) result }
 {
     let sh = Shape { l1, l2, l3, w };
-    match cube::is_code_cube(cube, sh) {
-        Err(f) => answer::number(f),
-        Ok(code) => if code { 256 } else { 0 },
-    }
+    crate::size_word(cube::is_code_cube(cube, sh).map(|code| usize::from(code)))
 }

@@ -23,5 +23,5 @@ pub extern "C" fn jibrufath_inverse(a: u8) -> u8
 pub extern "C" fn jibrufath_pow(i: u8) -> u8
     ensures { result ≡ pow reduction i }
 {
-    field::pow(field::reduction(), i as usize)
+    field::pow(field::reduction(), usize::from(i))
 }

@@ -1,5 +1,5 @@
 // The calls that C and Rust link: a shape as four numbers, an answer as one word of 64 bits. Calls on cubes, on a line, on packs, on plans, on
-// texts, on sizes and in the field.
+// texts, on sizes and in the field. Each call stands written out with its parameters, though many are alike: C calls them by name.
 #![tactic(auto)]
 
 mod cubes;
@@ -28,7 +28,7 @@ pub(crate) fn answer_word<T: Copy>(answer: Result<T, Refusal>) -> u64
     }
 }
 
-// The word of a size.
+// The word of a size or of another count. `as` here and in the places of C: there is no From of usize for u64.
 pub(crate) fn size_word(size: Result<usize, Refusal>) -> u64
     requires { beside whole (value_of size) < 2 ^ 45 }
     ensures { result ≡ packed whole (value_of size) }

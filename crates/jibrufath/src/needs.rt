@@ -22,32 +22,33 @@ pub extern "C" fn jibrufath_needs(pack: &[u8], needs: &mut [u64; 16]) -> u64
     }
 }
 
-// What the calls of a pack with this header are lent.
+// What the calls of a pack with this header are lent. No From: neither a header nor an array is this crate's own.
 fn needs_of(h: Header) -> [u64; 16]
     requires { HeaderSound h }
     ensures { result ≡ needs_of h }
 {
     let sh = h.shape;
     let z = h.sizes;
-    match pack_writer::written_bytes(h) {
-        Err(_) => [0; 16],
-        Ok(size) => [
-            sh.l1 as u64,
-            sh.l2 as u64,
-            sh.l3 as u64,
-            sh.w as u64,
-            z.cells as u64,
-            z.bytes as u64,
-            z.capacity as u64,
-            (z.capacity - 4) as u64,
-            size as u64,
-            h.used as u64,
-            0,
-            0,
-            0,
-            0,
-            0,
-            0,
-        ],
-    }
+    // A header that was read has a size.
+    let Ok(size) = pack_writer::written_bytes(h) else {
+        return [0; 16];
+    };
+    [
+        sh.l1 as u64,
+        sh.l2 as u64,
+        sh.l3 as u64,
+        sh.w as u64,
+        z.cells as u64,
+        z.bytes as u64,
+        z.capacity as u64,
+        (z.capacity - 4) as u64,
+        size as u64,
+        h.used as u64,
+        0,
+        0,
+        0,
+        0,
+        0,
+        0,
+    ]
 }

@@ -1,18 +1,16 @@
 // The calls on splice plans: writing one, measuring and reading one, and receiving one with a pack.
-ghost use Rattle.std.specs.Prelude.{◌≡◌, length};
-ghost use Rattle.answer.specs.Values.{value_of};
+ghost use Rattle.std.specs.Prelude.{◌≡◌, length, unwrap_or};
 ghost use Rattle.field.specs.Field.{reduction};
 ghost use Rattle.receiver.specs.Receive.{lent};
 ghost use Rattle.plan_form.specs.Form.{FormOutcome, plan_in, lists};
 ghost use Rattle.plan.specs.Calls.{WritePlanOutcome, ReadPlanOutcome};
-ghost use Rattle.plan.specs.Receiving.{ReceivePlanOutcome};
+ghost use Rattle.plan.specs.Receiving.{no_entries, ReceivePlanOutcome};
 ghost use Rattle.jibrufath.specs.Exports.{Exported, uncounted};
-ghost use Rattle.jibrufath.specs.Plans.{entry_places, entries_in, PlanExport, ReceivePlanExport};
+ghost use Rattle.jibrufath.specs.Plans.{entry_places, PlanExport, ReceivePlanExport};
 
 use crate::answer_word;
 use crate::packs::{ending_word, receive_counts};
-use answer::Refusal;
-use plan_form::PlanCounts;
+use plan_form::{PlanCounts, PlanLists};
 
 // Writes the file of a plan.
 #[unsafe(no_mangle)]
@@ -24,7 +22,12 @@ pub extern "C" fn jibrufath_write_plan(
 ) -> u64
     ensures { Exported uncounted (WritePlanOutcome (lists closures.now fibres.now splices.now) output.old output.new) result }
 {
-    answer_word(plan::write_plan(closures, fibres, splices, output))
+    let lists = PlanLists {
+        closures,
+        fibres,
+        splices,
+    };
+    answer_word(plan::write_plan(lists, output))
 }
 
 // The counts of the plan in a file.
@@ -33,7 +36,7 @@ pub extern "C" fn jibrufath_measure_plan(file: &[u8], entries: &mut [u64; 3]) ->
     ensures { PlanExport (FormOutcome (plan_in file.now) (length file.now) (plan_in file.now).counts) entries.new result }
 {
     let read = plan_form::measure_plan(file);
-    *entries = read_entries(read);
+    *entries = entry_places(read.ok());
     answer_word(read)
 }
 
@@ -49,7 +52,7 @@ pub extern "C" fn jibrufath_read_plan(
     ensures { PlanExport (ReadPlanOutcome file.now (lists closures.old fibres.old splices.old) (lists closures.new fibres.new splices.new)) entries.new result }
 {
     let read = plan::read_plan(file, closures, fibres, splices);
-    *entries = read_entries(read);
+    *entries = entry_places(read.ok());
     answer_word(read)
 }
 
@@ -85,19 +88,12 @@ pub extern "C" fn jibrufath_receive_plan(
     }
 }
 
-// The counts of entries of what was read, 0 with a refusal.
-fn read_entries(read: Result<PlanCounts, Refusal>) -> [u64; 3]
-    ensures { result ≡ entries_in (value_of read) }
+// The counts of entries in their three places, 0 where no plan is shown. No From: neither `PlanCounts` nor an array is this crate's own.
+fn entry_places(shown: Option<PlanCounts>) -> [u64; 3]
+    ensures { result ≡ entry_places (unwrap_or shown no_entries) }
 {
-    match read {
-        Ok(n) => entry_places(n),
-        Err(_) => [0; 3],
+    match shown {
+        Some(n) => [n.closures as u64, n.fibres as u64, n.splices as u64],
+        None => [0; 3],
     }
-}
-
-// The counts of entries in their three places.
-fn entry_places(n: PlanCounts) -> [u64; 3]
-    ensures { result ≡ entry_places n }
-{
-    [n.closures as u64, n.fibres as u64, n.splices as u64]
 }

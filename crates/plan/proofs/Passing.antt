@@ -1,5 +1,5 @@
 -- From the receiver's outcome, and the outcome of reading its file, to the outcome of receiving a plan.
-use Rattle.std.specs.Prelude.{Result, Ok, Err}
+use Rattle.std.specs.Prelude.{Result, Ok, Err, Some, None}
 use mathlib.Core.Path.{◌≡◌, refl, sym, ap}
 use mathlib.Core.List.{List}
 use Prim.Native.Nat.{ℕ, ◌≤◌}
@@ -54,7 +54,7 @@ module _ {r : ℕ} {p : List ℕ} {m m' : Memory} where
       unfolding received_value received_counts
       came = rw e at o
 
-      pub left-passed : (n : ℕ) (q : PlanReceived) → received.ending ≡ Left n → q ≡ record { received = received; entries = no_entries } → (l : Lists)
+      pub left-passed : (n : ℕ) (q : PlanReceived) → received.ending ≡ Left n → q ≡ record { received = received; entries = None } → (l : Lists)
           → ReceivePlanOutcome r p m m' l l (shown_value (Ok q)) (shown_counts (Ok q)) (shown_entries (Ok q))
       unfolding shown_value shown_counts shown_entries reception_of
       left-passed n q is same l =
@@ -85,7 +85,7 @@ module _ {r : ℕ} {p : List ℕ} {m m' : Memory} where
           plan-refused f end b same = rw same (not-shown (rw b at outcome) f refl)
 
           pub plan-shown : (entries : PlanCounts) → read ≡ Ok entries
-              → let end : Result PlanReceived Refusal = Ok (record { received = received; entries = entries }) in
+              → let end : Result PlanReceived Refusal = Ok (record { received = received; entries = Some entries }) in
               ReceivePlanOutcome r p m m' l l' (shown_value end) (shown_counts end) (shown_entries end)
           unfolding value_of shown_value shown_counts shown_entries reception_of
           plan-shown entries b = rw is (shown n received.counts filed entries (rw b at outcome))

@@ -1,5 +1,5 @@
 -- Receiving a plan (request P4): what the receiver answers and leaves comes first, and its file is then read as a plan.
-use Rattle.std.specs.Prelude.{◌≡◌, List, ◌≢◌, ℕ, take, Result, Ok, Err}
+use Rattle.std.specs.Prelude.{◌≡◌, List, ◌≢◌, ℕ, take, unwrap_or, Result, Ok, Err}
 use Rattle.answer.specs.declared.Refusal.{Refusal}
 use Rattle.answer.specs.Values.{Value, gives, refused, refused_at, refusal}
 use Rattle.receiver.specs.declared.Counts.{Counts}
@@ -24,7 +24,7 @@ shown_counts (Ok q) = q.received.counts
 shown_counts (Err f) = no_counts
 
 unfoldable pub shown_entries : Result PlanReceived Refusal → PlanCounts
-shown_entries (Ok q) = q.entries
+shown_entries (Ok q) = unwrap_or q.entries no_entries
 shown_entries (Err f) = no_entries
 
 -- `receive_plan`: the receiver's refusals and Left as they are; 18 "after 14; then 4". "With both the receiver's memory stands as File leaves it."

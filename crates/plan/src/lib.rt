@@ -13,34 +13,30 @@ ghost use Rattle.plan.specs.Calls.{WritePlanOutcome, ReadPlanOutcome};
 ghost use Rattle.plan.specs.Receiving.{shown_value, shown_counts, shown_entries, ReceivePlanOutcome};
 
 use answer::{Fault, Refusal};
-use plan_form::PlanCounts;
+use plan_form::{PlanCounts, PlanLists};
 use receiver::{Ending, Received};
 
-// The receiver's answer, and the entries of the plan that is shown; where cells are left these are 0.
+// The receiver's answer, and the entries of the plan that is shown; none where cells are left.
 #[derive(Clone, Copy)]
 pub struct PlanReceived {
     pub received: Received,
-    pub entries: PlanCounts,
+    pub entries: Option<PlanCounts>,
 }
 
 // Writes the file of a plan, whose entries are lent as they stand in it.
-pub fn write_plan(
-    closures: &[u8],
-    fibres: &[u8],
-    splices: &[u8],
-    output: &mut [u8],
-) -> Result<(), Refusal>
-    ensures { WritePlanOutcome (lists closures.now fibres.now splices.now) output.old output.new (value_of result) }
+pub fn write_plan(plan: PlanLists, output: &mut [u8]) -> Result<(), Refusal>
+    ensures { let p = plan.entry in WritePlanOutcome (lists p.closures.now p.fibres.now p.splices.now) output.old output.new (value_of result) }
 {
-    if !writing::fits(closures.len(), fibres.len(), splices.len(), output.len()) {
+    if !writing::fits(plan, output.len()) {
         return Err(Refusal::Plain(Fault::SliceLength));
     }
-    plan_form::check_lists(closures, fibres, splices)?;
-    writing::put_plan(closures, fibres, splices, output);
+    plan_form::check_lists(plan)?;
+    writing::put_plan(plan, output);
     Ok(())
 }
 
-// Reads the plan in a file: its entries begin the lists.
+// Reads the plan in a file: its entries begin the lists. They stay three parameters here and below: a struct of slices that are written to would have
+// to say in each contract that its fields are still the slices that were lent.
 pub fn read_plan(
     file: &[u8],
     closures: &mut [u8],
@@ -72,18 +68,9 @@ pub fn receive_plan(
         (shown_value result) (shown_counts result) (shown_entries result) }
 {
     let received = receiver::receive_pack(air, cube, flags, file)?;
-    match received.ending {
-        Ending::Left(_) => Ok(PlanReceived {
-            received,
-            entries: PlanCounts {
-                closures: 0,
-                fibres: 0,
-                splices: 0,
-            },
-        }),
-        Ending::File(n) => {
-            let entries = read_plan(&file[..n], closures, fibres, splices)?;
-            Ok(PlanReceived { received, entries })
-        }
-    }
+    let entries = match received.ending {
+        Ending::Left(_) => None,
+        Ending::File(n) => Some(read_plan(&file[..n], closures, fibres, splices)?),
+    };
+    Ok(PlanReceived { received, entries })
 }

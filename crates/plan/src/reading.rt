@@ -7,20 +7,16 @@ ghost use Rattle.plan.specs.Calls.{begun};
 use plan_form::PlanCounts;
 
 // Whether lists of so many bytes have room for the entries. The counts of a plan that was read are far too small for these products to wrap.
+#[tactic(auto, unfolding(plan_form::specs::Form::plan_end))]
 pub(crate) fn room(n: PlanCounts, closures: usize, fibres: usize, splices: usize) -> bool
     requires { plan_end n ≤ 18446744073709551615 }
     ensures { Decides ((2 * n.closures ≤ closures) × (4 * n.fibres ≤ fibres) × (8 * n.splices ≤ splices)) result }
 {
-    if closures < 2 * n.closures {
-        return false;
-    }
-    if fibres < 4 * n.fibres {
-        return false;
-    }
-    8 * n.splices <= splices
+    2 * n.closures <= closures && 4 * n.fibres <= fibres && 8 * n.splices <= splices
 }
 
 // Copies the entries of each section to the start of its list.
+#[tactic(auto, unfolding(plan_form::specs::Form::plan_end))]
 pub(crate) fn show(
     file: &[u8],
     closures: &mut [u8],

@@ -6,35 +6,32 @@ ghost use Rattle.pack_writer.specs.Writing.{Laid};
 ghost use Rattle.plan_form.specs.Form.{lists, plan_bytes};
 
 use cursor::{Cursor, count_bytes};
+use plan_form::PlanLists;
 
-// Whether lists of so many bytes have whole entries, and the output room for the file and no more. Differences avoid a sum that could wrap.
-pub(crate) fn fits(closures: usize, fibres: usize, splices: usize, output: usize) -> bool
-    ensures { Decides ((closures % 2 ≡ 0) × (fibres % 4 ≡ 0) × (splices % 8 ≡ 0) × (output ≡ 12 + closures + fibres + splices)) result }
+// Whether the lists have whole entries, and an output of so many bytes room for the file and no more. Differences avoid a sum that could wrap.
+pub(crate) fn fits(plan: PlanLists, output: usize) -> bool
+    ensures { let p = plan.entry in let c = length p.closures.now in let f = length p.fibres.now in let s = length p.splices.now in
+        Decides ((c % 2 ≡ 0) × (f % 4 ≡ 0) × (s % 8 ≡ 0) × (output ≡ 12 + c + f + s)) result }
 {
-    if closures % 2 + fibres % 4 + splices % 8 != 0 {
-        return false;
-    }
-    if output < 12 {
-        return false;
-    }
-    if output - 12 < closures {
-        return false;
-    }
-    if output - 12 - closures < fibres {
-        return false;
-    }
-    output - 12 - closures - fibres == splices
+    let closures = plan.closures.len();
+    let fibres = plan.fibres.len();
+    let splices = plan.splices.len();
+    closures % 2 + fibres % 4 + splices % 8 == 0
+        && 12 <= output
+        && closures <= output - 12
+        && fibres <= output - 12 - closures
+        && output - 12 - closures - fibres == splices
 }
 
 // Puts the three sections, where they have exactly the room they need.
-pub(crate) fn put_plan(closures: &[u8], fibres: &[u8], splices: &[u8], output: &mut [u8])
-    requires { length output.old ≡ 12 + length closures.now + length fibres.now + length splices.now }
-    ensures { output.new ≡ plan_bytes (lists closures.now fibres.now splices.now) }
+pub(crate) fn put_plan(plan: PlanLists, output: &mut [u8])
+    requires { length output.old ≡ 12 + length plan.closures.now + length plan.fibres.now + length plan.splices.now }
+    ensures { let p = plan.entry in output.new ≡ plan_bytes (lists p.closures.now p.fibres.now p.splices.now) }
 {
     let start = Cursor { at: 0 };
-    let second = put_section(closures, output, start, closures.len() / 2);
-    let third = put_section(fibres, output, second, fibres.len() / 4);
-    put_section(splices, output, third, splices.len() / 8);
+    let second = put_section(plan.closures, output, start, plan.closures.len() / 2);
+    let third = put_section(plan.fibres, output, second, plan.fibres.len() / 4);
+    put_section(plan.splices, output, third, plan.splices.len() / 8);
 }
 
 // A count and the entries behind it.

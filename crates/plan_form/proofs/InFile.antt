@@ -2,17 +2,15 @@
 use Rattle.std.specs.Prelude.{Ok, min}
 use mathlib.Core.Path.{◌≡◌, subst}
 use mathlib.Core.List.{List}
-use mathlib.Core.Logic.{◌⊎◌, inl, inr, ⊎_elim}
 use Prim.Native.Nat.{ℕ, ◌+◌, ◌-◌, ◌*◌, ◌/◌, ◌≤◌, ◌<◌}
 use native.Mathlib.Omega.{arith}
-use native.Mathlib.Decide.{dec_lt}
 use lib.ListN.{length}
 use Rattle.answer.specs.Values.{value_of}
 use Rattle.cursor.specs.Steps.{word}
 use Rattle.plan_form.specs.declared.sections.Section.{Section}
 use Rattle.plan_form.specs.Entries.{entries, ClosureRule, FibreRule, SpliceRule}
 use Rattle.plan_form.specs.Form.{SoundBefore, Broken, IsPlan, FormOutcome, formed, plan_counts, plan_with, closures_in, fibres_in, splices_in, plan_in}
-use Rattle.plan_form.specs.Inner.Checks.{First, FibresKept}
+use Rattle.plan_form.specs.Inner.Checks.{FirstKept, FibresKept}
 use Rattle.plan_form.proofs.Judging.{fibre-count-cut, splice-count-cut, fibres-fit, closures-broken, closures-passed, fibres-broken, fibres-passed, splices-broken, bytes-left-over, plan-formed}
 
 module _ (f : List ℕ) where
@@ -38,7 +36,7 @@ module _ (f : List ℕ) where
   -- ---- sections
 
   module _ (at n whole first : ℕ) (ea : at ≡ 4) (en : n ≡ closures_in f) (room : 4 ≤ len) (least : whole ≡ min n ((len - at) / 2))
-      (found : First (ClosureRule (entries f at)) whole first) where
+      (found : FirstKept (ClosureRule (entries f at)) whole first) where
     closures-cut : whole < closures_in f → len < 6 + 2 * whole
     closures-cut l = omega arith
 
@@ -46,21 +44,21 @@ module _ (f : List ℕ) where
     unfolding plan_in plan_with
     closures-broken-in l =
         closures-broken (plan_in f) len whole first room (omega arith) (omega arith) closures-cut
-        (subst (λ (a : ℕ). First (ClosureRule (entries f a)) whole first) ea found) (omega arith)
+        (subst (λ (a : ℕ). FirstKept (ClosureRule (entries f a)) whole first) ea found) (omega arith)
 
     pub closures-passed-in : n ≤ first → SoundBefore (plan_in f) len (4 + 2 * closures_in f) × (4 + 2 * closures_in f ≤ len)
     unfolding plan_in plan_with
     closures-passed-in l =
         closures-passed (plan_in f) len whole first room (omega arith) (omega arith) closures-cut
-        (subst (λ (a : ℕ). First (ClosureRule (entries f a)) whole first) ea found) (omega arith)
+        (subst (λ (a : ℕ). FirstKept (ClosureRule (entries f a)) whole first) ea found) (omega arith)
 
   module _ (before : SoundBefore (plan_in f) len (4 + 2 * closures_in f)) (ca c at n whole first : ℕ) (eca : ca ≡ 4) (ec : c ≡ closures_in f)
       (ea : at ≡ 8 + 2 * closures_in f) (en : n ≡ fibres_in f) (room : 8 + 2 * closures_in f ≤ len) (least : whole ≡ min n ((len - at) / 4))
-      (found : First (FibreRule (entries f ca) c (entries f at)) whole first) where
+      (found : FirstKept (FibreRule (entries f ca) c (entries f at)) whole first) where
     fibres-cut : whole < fibres_in f → len < 12 + 2 * closures_in f + 4 * whole
     fibres-cut l = omega arith
 
-    fibres-found : First (FibreRule (entries f 4) (closures_in f) (entries f (8 + 2 * closures_in f))) whole first
+    fibres-found : FirstKept (FibreRule (entries f 4) (closures_in f) (entries f (8 + 2 * closures_in f))) whole first
     fibres-found = rw (eca, ec, ea) at found
 
     pub fibres-broken-in : first < n → Broken (plan_in f) len (8 + 2 * closures_in f + 4 * first)
@@ -75,21 +73,23 @@ module _ (f : List ℕ) where
 
   module _ (before : SoundBefore (plan_in f) len (8 + 2 * closures_in f + 4 * fibres_in f)) (fa n at s whole first : ℕ) (efa : fa ≡ 8 + 2 * closures_in f)
       (en : n ≡ fibres_in f) (ea : at ≡ 12 + 2 * closures_in f + 4 * fibres_in f) (es : s ≡ splices_in f) (room : 12 + 2 * closures_in f + 4 * fibres_in f ≤ len)
-      (least : whole ≡ min s ((len - at) / 8)) (found : First (SpliceRule (entries f fa) n (entries f at)) whole first) where
+      (least : whole ≡ min s ((len - at) / 8)) (found : FirstKept (SpliceRule (entries f fa) n (entries f at)) whole first) where
     splices-cut : whole < splices_in f → len < 20 + 2 * closures_in f + 4 * fibres_in f + 8 * whole
     splices-cut l = omega arith
 
-    splices-found : First (SpliceRule (entries f (8 + 2 * closures_in f)) (fibres_in f) (entries f (12 + 2 * closures_in f + 4 * fibres_in f))) whole first
+    splices-found : FirstKept (SpliceRule (entries f (8 + 2 * closures_in f)) (fibres_in f) (entries f (12 + 2 * closures_in f + 4 * fibres_in f))) whole first
     splices-found = rw (efa, en, ea) at found
 
-    pub splices-broken-in : (first < s) ⊎ (at + 8 * first < len) → Broken (plan_in f) len (12 + 2 * closures_in f + 4 * fibres_in f + 8 * first)
+    pub splices-broken-in : first < s → Broken (plan_in f) len (12 + 2 * closures_in f + 4 * fibres_in f + 8 * first)
     unfolding plan_in plan_with
-    splices-broken-in either =
-        elim (dec_lt first s) [
-          | yes l ↦ splices-broken (plan_in f) len before whole first (omega arith) (omega arith) splices-cut splices-found (omega arith)
-          | no l ↦ bytes-left-over (plan_in f) len before whole first (omega arith) (omega arith) splices-cut splices-found (omega arith)
-              (⊎_elim (λ (m : first < s). absurd (omega arith)) (λ (m : at + 8 * first < len). omega arith) either)
-        ]
+    splices-broken-in l =
+        splices-broken (plan_in f) len before whole first (omega arith) (omega arith) splices-cut splices-found (omega arith)
+
+    pub left-over-in : s ≤ first → at + 8 * s < len → Broken (plan_in f) len (12 + 2 * closures_in f + 4 * fibres_in f + 8 * s)
+    unfolding plan_in plan_with
+    left-over-in l more =
+        let all : first ≡ s = omega (arith, found.bound) in
+        rw all at (bytes-left-over (plan_in f) len before whole first (omega arith) (omega arith) splices-cut splices-found (omega arith) (omega arith))
 
     plan-in : s ≤ first → len ≤ at + 8 * first → IsPlan (plan_in f) len
     unfolding plan_in plan_with
@@ -113,8 +113,8 @@ abbrev Whole : List ℕ → ℕ → Section → List ℕ → Section → Type 0
 Whole f bytes s g w = (g ≡ f) × (w.at ≡ s.at) × (w.count ≡ min s.count ((length f - s.at) / bytes))
 
 module _ (f : List ℕ) (c : Section) (cf : List ℕ) (cw : Section) (first : ℕ) (counted : Counted f 0 c) (whole : Whole f 2 c cf cw)
-    (found-whole : First (ClosureRule (entries cf cw.at)) cw.count first) where
-  found : First (ClosureRule (entries f cw.at)) cw.count first
+    (found-whole : FirstKept (ClosureRule (entries cf cw.at)) cw.count first) where
+  found : FirstKept (ClosureRule (entries f cw.at)) cw.count first
   found = rw whole.0 at found-whole
 
   closures-count : c.count ≡ closures_in f
@@ -138,8 +138,8 @@ module _ (f : List ℕ) (c : Section) (cf : List ℕ) (cw : Section) (first : �
         rw e (fibre-count-cut (plan_in f) (length f) closures-before (omega (arith, counted, closures-count)))
 
     module _ (s : Section) (sf : List ℕ) (sw : Section) (second : ℕ) (counted' : Counted f (c.at + 2 * c.count) s) (whole' : Whole f 4 s sf sw)
-        (found-whole' : First (FibreRule (entries f c.at) c.count (entries sf sw.at)) sw.count second) where
-      found' : First (FibreRule (entries f c.at) c.count (entries f sw.at)) sw.count second
+        (found-whole' : FirstKept (FibreRule (entries f c.at) c.count (entries sf sw.at)) sw.count second) where
+      found' : FirstKept (FibreRule (entries f c.at) c.count (entries f sw.at)) sw.count second
       found' = rw whole'.0 at found-whole'
 
       fibres-count : s.count ≡ fibres_in f
@@ -170,8 +170,8 @@ module _ (f : List ℕ) (c : Section) (cf : List ℕ) (cw : Section) (first : �
             rw e (splice-count-cut (plan_in f) (length f) fibres-before (omega (arith, fibres-place, fibres-count)))
 
         module _ (t : Section) (tf : List ℕ) (tw : Section) (third : ℕ) (counted'' : Counted f (s.at + 4 * s.count) t) (whole'' : Whole f 8 t tf tw)
-            (found-whole'' : First (SpliceRule (entries f s.at) s.count (entries tf tw.at)) tw.count third) where
-          found'' : First (SpliceRule (entries f s.at) s.count (entries f tw.at)) tw.count third
+            (found-whole'' : FirstKept (SpliceRule (entries f s.at) s.count (entries tf tw.at)) tw.count third) where
+          found'' : FirstKept (SpliceRule (entries f s.at) s.count (entries f tw.at)) tw.count third
           found'' = rw whole''.0 at found-whole''
 
           splices-count : t.count ≡ splices_in f
@@ -180,14 +180,19 @@ module _ (f : List ℕ) (c : Section) (cf : List ℕ) (cw : Section) (first : �
           splices-place : t.at ≡ 12 + 2 * closures_in f + 4 * fibres_in f
           splices-place = omega (arith, fibres-place, fibres-count, counted'')
 
-          pub splices-broken-at : (third < t.count) ⊎ (t.at + 8 * third < length f) → Broken (plan_in f) (length f) (t.at + 8 * third)
-          splices-broken-at either =
+          pub splices-broken-at : third < t.count → Broken (plan_in f) (length f) (t.at + 8 * third)
+          splices-broken-at l =
               rw splices-place
               (splices-broken-in f fibres-before s.at s.count tw.at t.count tw.count third fibres-place fibres-count (omega (arith, whole'', splices-place)) splices-count
-              (omega (arith, counted'', splices-place)) (omega (arith, whole'')) found''
-              (⊎_elim (λ (l : third < t.count). inl l) (λ (m : t.at + 8 * third < length f). inr (omega (arith, whole''))) either))
+              (omega (arith, counted'', splices-place)) (omega (arith, whole'')) found'' l)
 
-          pub plan-measured-at : t.count ≤ third → length f ≤ t.at + 8 * third
+          pub left-over-at : t.count ≤ third → t.at + 8 * t.count < length f → Broken (plan_in f) (length f) (t.at + 8 * t.count)
+          left-over-at l more =
+              rw splices-place
+              (left-over-in f fibres-before s.at s.count tw.at t.count tw.count third fibres-place fibres-count (omega (arith, whole'', splices-place)) splices-count
+              (omega (arith, counted'', splices-place)) (omega (arith, whole'')) found'' l (omega (arith, whole'')))
+
+          pub plan-measured-at : t.count ≤ third → length f ≤ t.at + 8 * t.count
               → FormOutcome (plan_in f) (length f) (plan_in f).counts (value_of (Ok (plan_counts c.count s.count t.count)))
           plan-measured-at l m =
               plan-measured f fibres-before s.at s.count tw.at t.count tw.count third fibres-place fibres-count (omega (arith, whole'', splices-place)) splices-count

@@ -10,7 +10,7 @@ use Rattle.answer.specs.declared.Refusal.TheVariants.{Entry}
 use Rattle.answer.specs.Values.{refusal, value_of}
 use Rattle.plan_form.specs.Entries.{ClosureRule, FibreRule, SpliceRule}
 use Rattle.plan_form.specs.Form.{Plan, Part, closure_count, closure, fibre_count, fibre, splice_count, splice, start, size, plan_end, Has, Rule, Sound, SoundBefore, Broken, part_broken, left_over, IsPlan, FormOutcome, broken}
-use Rattle.plan_form.specs.Inner.Checks.{First, FibresKept}
+use Rattle.plan_form.specs.Inner.Checks.{FirstKept, FibresKept}
 use Rattle.plan_form.proofs.Soundness.{closures-sound, fibres-sound, splices-sound, all_sound}
 use Rattle.plan_form.proofs.Ascending.{fibres-kept}
 
@@ -50,7 +50,7 @@ module _ (P : Plan) (len : ℕ) where
 
   -- ---- entries of which the first `whole` are whole, and `first` is the first of those that breaks its rule, or is `whole`
 
-  module _ (entry : ℕ → Part) (whole first : ℕ) (found : First (λ k. Rule P (entry k)) whole first) where
+  module _ (entry : ℕ → Part) (whole first : ℕ) (found : FirstKept (λ k. Rule P (entry k)) whole first) where
     each-sound : ((k : ℕ) → k < whole → start P.counts (entry k) + size (entry k) ≤ len) → (j : ℕ) → j < first → Sound P len (entry j)
     each-sound fit j l = record { whole = fit j (omega (arith, found.bound)); kept = found.before j l }
 
@@ -61,7 +61,7 @@ module _ (P : Plan) (len : ℕ) where
   -- ---- the three sections
 
   module _ (whole first : ℕ) (room : 4 ≤ len) (fit : 4 + 2 * whole ≤ len) (most : whole ≤ c) (cut : whole < c → len < 6 + 2 * whole)
-      (found : First (ClosureRule P.closures) whole first) where
+      (found : FirstKept (ClosureRule P.closures) whole first) where
     closures-each : (j : ℕ) → j < first → Sound P len (closure j)
     unfolding start size Rule
     closures-each = each-sound closure whole first found (λ k l. omega arith)
@@ -80,7 +80,7 @@ module _ (P : Plan) (len : ℕ) where
         (subst (λ (k : ℕ). SoundBefore P len (4 + 2 * k)) all (closures-sound P len first room (omega arith) closures-each), omega (arith, found.bound))
 
   module _ (before : SoundBefore P len (4 + 2 * c)) (whole first : ℕ) (fit : 8 + 2 * c + 4 * whole ≤ len) (most : whole ≤ n) (cut : whole < n → len < 12 + 2 * c + 4 * whole)
-      (found : First (FibreRule P.closures c P.fibres) whole first) where
+      (found : FirstKept (FibreRule P.closures c P.fibres) whole first) where
     fibres-each : (j : ℕ) → j < first → Sound P len (fibre j)
     unfolding start size Rule
     fibres-each = each-sound fibre whole first found (λ k l. omega arith)
@@ -101,7 +101,7 @@ module _ (P : Plan) (len : ℕ) where
         )
 
   module _ (before : SoundBefore P len (8 + 2 * c + 4 * n)) (whole first : ℕ) (fit : 12 + 2 * c + 4 * n + 8 * whole ≤ len) (most : whole ≤ P.counts.splices)
-      (cut : whole < P.counts.splices → len < 20 + 2 * c + 4 * n + 8 * whole) (found : First (SpliceRule P.fibres n P.splices) whole first) where
+      (cut : whole < P.counts.splices → len < 20 + 2 * c + 4 * n + 8 * whole) (found : FirstKept (SpliceRule P.fibres n P.splices) whole first) where
     splices-each : (j : ℕ) → j < first → Sound P len (splice j)
     unfolding start size Rule
     splices-each = each-sound splice whole first found (λ k l. omega arith)

@@ -1,13 +1,13 @@
 // The rule of closures: strictly ascending numbers.
 ghost use Rattle.plan_form.specs.Entries.{entries, ClosureRule};
-ghost use Rattle.plan_form.specs.Inner.Checks.{First};
+ghost use Rattle.plan_form.specs.Inner.Checks.{FirstKept};
 
 use crate::numbers::half;
 use crate::sections::Entries;
 
-// The first closure of the section that breaks its rule, or the section's count.
-pub(crate) fn first_broken(closures: &Entries<2>) -> usize
-    ensures { let c = closures.now in First (ClosureRule (entries c.bytes.now c.s.at)) c.s.count result }
+// How many closures of the section keep their rule, from the first on.
+pub(crate) fn kept(closures: &Entries<2>) -> usize
+    ensures { let c = closures.now in FirstKept (ClosureRule (entries c.bytes.now c.s.at)) c.s.count result }
 {
     let mut least = 0;
     for k in 0..closures.s.count {

@@ -2,16 +2,16 @@
 ghost use Rattle.std.specs.Prelude.{ℕ, ◌+◌, ◌≤◌, ◌<◌};
 ghost use Rattle.span.specs.Decision.{Decides};
 ghost use Rattle.plan_form.specs.Entries.{entries, closure_at, ClosureRule, Listed, FibreRule};
-ghost use Rattle.plan_form.specs.Inner.Checks.{First, Walked};
+ghost use Rattle.plan_form.specs.Inner.Checks.{FirstKept, Walked};
 
 use crate::numbers::half;
 use crate::sections::Entries;
 
-// The first fibre of the section that breaks its rule, or the section's count. The closures are walked through once: those before `q` are
+// How many fibres of the section keep their rules, from the first on. The closures are walked through once: those before `q` are
 // below every fibre's that is still to come.
-pub(crate) fn first_broken(closures: &Entries<2>, fibres: &Entries<4>) -> usize
+pub(crate) fn kept(closures: &Entries<2>, fibres: &Entries<4>) -> usize
     requires { let c = closures.now in (k : ℕ) → k < c.s.count → ClosureRule (entries c.bytes.now c.s.at) k }
-    ensures { let c = closures.now in let f = fibres.now in First (FibreRule (entries c.bytes.now c.s.at) c.s.count (entries f.bytes.now f.s.at)) f.s.count result }
+    ensures { let c = closures.now in let f = fibres.now in FirstKept (FibreRule (entries c.bytes.now c.s.at) c.s.count (entries f.bytes.now f.s.at)) f.s.count result }
 {
     let mut least = 0;
     let mut q = 0;
@@ -38,7 +38,8 @@ fn in_order(number: usize, pair: usize, least: usize) -> bool
     1 <= number && number <= 288 && least <= pair
 }
 
-// The first closure from q on whose number is not below the one sought.
+// Where the walk through the closures stands once it has passed those below the number sought, at most behind the last. A place, from which the
+// next fibre's walk goes on.
 fn advance(closures: &Entries<2>, q: usize, sought: usize) -> usize
     requires { let c = closures.now in Walked (entries c.bytes.now c.s.at) c.s.count sought q }
     ensures { let c = closures.now in Walked (entries c.bytes.now c.s.at) c.s.count sought result × ((result < c.s.count) → sought ≤ closure_at (entries c.bytes.now c.s.at) result) }

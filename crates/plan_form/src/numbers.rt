@@ -8,10 +8,11 @@ pub(crate) fn half(bytes: &[u8], at: usize) -> usize
     requires { at + 2 ≤ length bytes.now }
     ensures { (result ≡ half bytes.now at) × (result < 65536) }
 {
-    u16::from_le_bytes([bytes[at], bytes[at + 1]]) as usize
+    usize::from(u16::from_le_bytes([bytes[at], bytes[at + 1]]))
 }
 
-// The number in four bytes at a place.
+// The number in four bytes at a place. A `Cursor` has such a step, which another crate calls and which so asks nothing of its caller; this one asks
+// that the bytes are there. `as`: there is no From of u32 for usize.
 pub(crate) fn word(bytes: &[u8], at: usize) -> usize
     requires { at + 4 ≤ length bytes.now }
     ensures { (result ≡ word bytes.now at) × (result < 4294967296) }

@@ -2,7 +2,7 @@
 ghost use Rattle.std.specs.Prelude.{◌≡◌, ◌⊎◌, ◌+◌, ◌<◌, set};
 ghost use Rattle.span.specs.Decision.{Decides};
 ghost use Rattle.plan_form.specs.Entries.{entries, closure_of, fibre_number, SpliceRule};
-ghost use Rattle.plan_form.specs.Inner.Checks.{First, FibresKept, InRank, Marked};
+ghost use Rattle.plan_form.specs.Inner.Checks.{FirstKept, FibresKept, InRank, Marked};
 
 use crate::numbers::{half, word};
 use crate::sections::Entries;
@@ -15,12 +15,12 @@ struct Marks<'a> {
     ghost kept: { FibresKept (entries fibres.bytes.now fibres.s.at) fibres.s.count },
 }
 
-// The first splice of the section that breaks its rule, or the section's count. First indexes ascend and a second is above its first, so only an
+// How many splices of the section keep their rule, from the first on. First indexes ascend and a second is above its first, so only an
 // earlier second can clash. Each leaves the mark of its closure at its fibre's number; fibres of one closure have different numbers, and
 // other closures have other marks, so that no mark is ever cleared.
-pub(crate) fn first_broken(fibres: &Entries<4>, splices: &Entries<8>) -> usize
+pub(crate) fn kept(fibres: &Entries<4>, splices: &Entries<8>) -> usize
     requires { let f = fibres.now in FibresKept (entries f.bytes.now f.s.at) f.s.count }
-    ensures { let f = fibres.now in let s = splices.now in First (SpliceRule (entries f.bytes.now f.s.at) f.s.count (entries s.bytes.now s.s.at)) s.s.count result }
+    ensures { let f = fibres.now in let s = splices.now in FirstKept (SpliceRule (entries f.bytes.now f.s.at) f.s.count (entries s.bytes.now s.s.at)) s.s.count result }
 {
     let mut marked = Marks {
         fibres: *fibres,

@@ -22,11 +22,11 @@ slice_bounds-read_plan-end c = file-le _ c.receive_pack.ensures _ c.in_ok-receiv
 pub slice_bounds-read_plan-end-in-File : goal.slice_bounds-read_plan-end-in-File
 slice_bounds-read_plan-end-in-File c = sym (length-take-le _ _ (file-le _ c.receive_pack.ensures _ c.in_ok-received.was _ c.in-File.is))
 
-pub returns-in_err-entries-in-File : goal.returns-in_err-entries-in-File
-returns-in_err-entries-in-File c =
-    let (f, is, same) = err_from_is_err_and c.from_residual-in_err-entries-in-File.result c.from_residual-in_err-entries-in-File.ensures.1 in
-    plan-refused _ c.receive_pack.ensures _ c.in_ok-received.was _ c.in-File.is _ c.read_plan.ensures _ _ c.in_err-entries-in-File.was (is ∙ ap Err same)
+pub returns-in_err-read_plan-in-File : goal.returns-in_err-read_plan-in-File
+returns-in_err-read_plan-in-File c =
+    let (f, is, same) = err_from_is_err_and c.from_residual-in_err-read_plan-in-File.result c.from_residual-in_err-read_plan-in-File.ensures.1 in
+    plan-refused _ c.receive_pack.ensures _ c.in_ok-received.was _ c.in-File.is _ c.read_plan.ensures _ _ c.in_err-read_plan-in-File.was (is ∙ ap Err same)
 
-pub returns-in_ok-entries-in-File : goal.returns-in_ok-entries-in-File
-returns-in_ok-entries-in-File c =
-    plan-shown _ c.receive_pack.ensures _ c.in_ok-received.was _ c.in-File.is _ c.read_plan.ensures _ c.in_ok-entries-in-File.was
+pub returns-in_ok-read_plan-in-File : goal.returns-in_ok-read_plan-in-File
+returns-in_ok-read_plan-in-File c =
+    plan-shown _ c.receive_pack.ensures _ c.in_ok-received.was _ c.in-File.is _ c.read_plan.ensures _ c.in_ok-read_plan-in-File.was

@@ -7,9 +7,6 @@ use Rattle.plan.proofs.write_plan.Goals as goal
 pub returns-then-not-fits : goal.returns-then-not-fits
 returns-then-not-fits c = write-unfit _ _ _ _ (decides-false c.fits.ensures c.if-not-fits.true)
 
-pub put_plan-requires : goal.put_plan-requires
-put_plan-requires c = (decides-true c.fits.ensures c.if-not-fits.false).3
-
 pub returns-in_err-check_lists : goal.returns-in_err-check_lists
 returns-in_err-check_lists c =
     let (f, is, same) = err_from_is_err_and c.from_residual.result c.from_residual.ensures.1 in

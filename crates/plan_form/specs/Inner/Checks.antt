@@ -3,8 +3,8 @@ use Rattle.std.specs.Prelude.{◌≡◌, List, ◌≢◌, ℕ, ◌+◌, ◌-◌,
 use Rattle.plan_form.specs.declared.sections.Section.{Section}
 use Rattle.plan_form.specs.Entries.{Entries, closure_at, closure_of, fibre_number, first_of, second_of}
 
--- r is the first of n entries that breaks its rule, or n
-pub record First (Rule : ℕ → Type 0) (n r : ℕ) : Type 0 where
+-- the first r of n entries keep their rule, and the next, if there is one, does not
+pub record FirstKept (Rule : ℕ → Type 0) (n r : ℕ) : Type 0 where
   pub bound : r ≤ n
   pub before : (j : ℕ) → j < r → Rule j
   pub here : r < n → Rule r → ⊥

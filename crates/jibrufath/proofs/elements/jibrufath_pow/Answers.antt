@@ -2,4 +2,4 @@
 use Rattle.jibrufath.proofs.elements.jibrufath_pow.Goals as goal
 
 pub returns : goal.returns
-returns c = rw (← c.reduction.ensures) c.pow.ensures
+returns c = rw (← c.reduction.ensures, ← c.from.ensures) c.pow.ensures

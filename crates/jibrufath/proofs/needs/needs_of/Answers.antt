@@ -10,11 +10,11 @@ unfolding sizes
 overflow_sub-result c =
     rw c.requires.measured c.requires.room
 
-pub returns-in-Err : goal.returns-in-Err
-returns-in-Err c =
-    absurd (written-refused _ (sound-sent _ c.requires) _ c.written_bytes.ensures _ c.in-Err.is)
+pub returns-in_default : goal.returns-in_default
+returns-in_default c =
+    absurd (written-refused _ (sound-sent _ c.requires) _ c.written_bytes.ensures _ c.in_default.is)
 
-pub returns-in-Ok : goal.returns-in-Ok
-returns-in-Ok c =
+pub returns : goal.returns
+returns c =
     let h = c.requires in
     needs-listed _ _ _ h.measured (written-given _ (sound-sent _ h) _ c.written_bytes.ensures _ c.in-Ok.is)

@@ -8,14 +8,14 @@ use Rattle.plan.proofs.writing.put_plan.Goals as goal
 
 pub put_section-third-requires : goal.put_section-third-requires
 put_section-third-requires c =
-    let cs = c.args.closures.now in
+    let cs = c.args.plan.closures.now in
     let first = c.put_section-second.ensures in
     omega (arith, c.requires, first.put.kept.size, first.behind, section-size (length cs / 2) cs)
 
 pub put_section-requires : goal.put_section-requires
 put_section-requires c =
-    let cs = c.args.closures.now in
-    let fs = c.args.fibres.now in
+    let cs = c.args.plan.closures.now in
+    let fs = c.args.plan.fibres.now in
     let first = c.put_section-second.ensures in
     let second = c.put_section-third.ensures in
     omega

@@ -1,9 +1,9 @@
--- `plan_form::fibres::first_broken` meets its contract.
+-- `plan_form::fibres::kept` meets its contract.
 use native.Mathlib.Omega.{arith}
 use Rattle.plan_form.specs.Entries.{closure_of, fibre_number}
 use Rattle.span.proofs.Decision.{decides-false, decides-true}
 use Rattle.plan_form.proofs.Walking.{disordered, walked_here, unlisted, read_more}
-use Rattle.plan_form.proofs.fibres.first_broken.Goals as goal
+use Rattle.plan_form.proofs.fibres.kept.Goals as goal
 
 pub returns-then-not-in_order : goal.returns-then-not-in_order
 unfolding closure_of fibre_number

@@ -1,8 +1,8 @@
--- `plan_form::closures::first_broken` meets its contract.
+-- `plan_form::closures::kept` meets its contract.
 use native.Mathlib.Omega.{arith}
 use Rattle.plan_form.specs.Entries.{closure_at}
 use Rattle.plan_form.proofs.Walking.{closure-broken, closures-more}
-use Rattle.plan_form.proofs.closures.first_broken.Goals as goal
+use Rattle.plan_form.proofs.closures.kept.Goals as goal
 
 pub returns-then-number-least : goal.returns-then-number-least
 unfolding closure_at

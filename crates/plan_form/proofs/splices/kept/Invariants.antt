@@ -1,9 +1,9 @@
--- `plan_form::splices::first_broken` meets its contract.
+-- `plan_form::splices::kept` meets its contract.
 use mathlib.Core.Path.{◌≡◌}
 use Prim.Native.Nat.{ℕ, ◌<◌}
 use Rattle.plan_form.specs.Entries.{entries, SpliceRule}
 use Rattle.plan_form.specs.Inner.Checks.{Marks}
-use Rattle.plan_form.proofs.splices.first_broken.Given as goal
+use Rattle.plan_form.proofs.splices.kept.Given as goal
 
 abbrev pub invariant-loop-k : goal.invariant-loop-k
 invariant-loop-k l =

@@ -1,12 +1,12 @@
--- `plan_form::splices::first_broken` meets its contract.
+-- `plan_form::splices::kept` meets its contract.
 use native.Mathlib.Omega.{arith}
 use borrow.Author.Count.{below_more}
 use mathlib.Core.Path.{◌≡◌, refl}
 use Rattle.span.proofs.Decision.{decides-false, decides-true, decides-false}
 use Rattle.plan_form.specs.Entries.{first_of, second_of}
 use Rattle.plan_form.proofs.Joined.{marks-none, out-of-rank, joined-twice, spliced, marks-next}
-use Rattle.plan_form.proofs.splices.first_broken.Goals as goal
-use Rattle.plan_form.proofs.splices.first_broken.Goals.{then-not-in_rank-via-then-not-in_rank, then-not-in_rank-via-else-not-in_rank+then-either}
+use Rattle.plan_form.proofs.splices.kept.Goals as goal
+use Rattle.plan_form.proofs.splices.kept.Goals.{then-not-in_rank-via-then-not-in_rank, then-not-in_rank-via-else-not-in_rank+then-either}
 
 pub loop-k-init : goal.loop-k-init
 loop-k-init c = (refl, λ j l. absurd (omega arith), marks-none _ _ _ c.requires)
