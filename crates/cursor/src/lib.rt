@@ -7,7 +7,7 @@ ghost use Rattle.cursor.specs.Steps.{word, word_bytes, count, bytes};
 
 use answer::{Fault, Refusal};
 
-// A place in a pack.
+// A place in a pack. A place alone, with no bytes beside it: the definitions go by places, and the cursor of a writer stands in no pack yet.
 #[derive(Clone, Copy)]
 pub struct Cursor {
     pub at: usize,

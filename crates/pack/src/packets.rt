@@ -51,6 +51,7 @@ impl Packets<'_> {
         requires { OnCube self.now.bytes.now self.now.header self.now.section i }
         ensures { result ≡ unsent self.now.header ((source self.now.bytes.now self.now.header self.now.section).place i) }
     {
+        // No `is_some_and`: what `is_unsent` asks is known of these parts alone, and a closure would ask it of any.
         let Some((a, b, c, _)) = self.parts(i) else {
             return false;
         };

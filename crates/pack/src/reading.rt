@@ -123,7 +123,8 @@ fn headed(
     Ok((header, next))
 }
 
-// The data cells of a valid shape.
+// The data cells of a valid shape. A product beside that of `measure`, whose capacity has W in it: one function for both would be public, and asked of
+// every shape.
 pub(crate) fn data_cells(sh: Shape) -> usize
     requires { Valid sh }
     ensures { result ≡ data_cells sh }
@@ -163,7 +164,7 @@ fn job_behind(pack: &[u8], h: Header, second: Cursor) -> Result<(Header, Section
     Ok((h, Section { at, count: n }))
 }
 
-// The receiver's sections 2 and 3, behind the header.
+// The receiver's sections 2 and 3, behind the header. The checks 9 and 8 stand here as they do there, one comparison each.
 fn air_behind(pack: &[u8], h: Header, second: Cursor) -> Result<(Header, Section), Refusal>
     requires { h.shape.w ≤ 1024 }
     ensures { value_of result ≡ checked (air_behind pack.now h second) }
