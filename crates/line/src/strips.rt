@@ -2,7 +2,7 @@
 ghost use Rattle.std.specs.Prelude.{◌≡◌, ℕ, ◌+◌, ◌<◌, ◌≤◌, length};
 ghost use Rattle.span.specs.Span.{Copied, Piece};
 ghost use Rattle.line.specs.Line.{Codeword};
-ghost use Rattle.line.specs.Run.{Inside, line_at};
+ghost use Rattle.line.specs.Run.{Inside, Erasable, line_at};
 ghost use Rattle.span.specs.Decision.{Decides};
 ghost use Rattle.line.specs.Inner.Block.{Syndromes, Combined, Combining, Roomy};
 
@@ -10,7 +10,7 @@ use crate::{Erasures, Run};
 
 // Writes both erasures of each line of `run` from the syndromes of the lines of `read`.
 pub(crate) fn solve(s: &mut [u8], reduction: u8, read: Run, run: Run, e: Erasures)
-    requires { (Inside read (length s.old)) × (read.width ≡ 64) × (Inside run (length s.old)) × (run.width ≡ 64) × (e.j ≤ e.k) × (e.k < run.len) }
+    requires { (Inside read (length s.old)) × (read.width ≡ 64) × Erasable run e (length s.old) × (run.width ≡ 64) }
     ensures { Combining reduction read run e s.old s.new }
 {
     let sums = syndromes(s, reduction, read);
@@ -67,7 +67,7 @@ pub(crate) fn combine(
     run: Run,
     e: Erasures,
 )
-    requires { (Inside run (length s.old)) × (run.width ≡ 64) × (e.j ≤ e.k) × (e.k < run.len) }
+    requires { Erasable run e (length s.old) × (run.width ≡ 64) }
     ensures { Combined reduction run e sums.first sums.second s.old s.new }
 {
     let y = sums.products(reduction, e.b, e.d);
