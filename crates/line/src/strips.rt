@@ -7,6 +7,7 @@ ghost use Rattle.span.specs.Decision.{Decides};
 ghost use Rattle.line.specs.Inner.Block.{Syndromes, Combined, Combining, Roomy};
 
 use crate::{Erasures, Run};
+use std::array;
 
 // Writes both erasures of each line of `run` from the syndromes of the lines of `read`.
 pub(crate) fn solve(s: &mut [u8], reduction: u8, read: Run, run: Run, e: Erasures)
@@ -42,11 +43,7 @@ fn load(s: &[u8], at: usize) -> [u8; 64]
     requires { at + 64 ≤ length s.now }
     ensures { Piece s.now at 64 result }
 {
-    let mut c = [0u8; 64];
-    for t in 0..64 {
-        c[t] = s[at + t];
-    }
-    c
+    array::from_fn(|t| s[at + t])
 }
 
 // Writes 64 bytes from `at` on, in the same way.

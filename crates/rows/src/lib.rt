@@ -8,6 +8,7 @@ ghost use Rattle.rows.specs.Rows.{behind, AllRows};
 ghost use Rattle.rows.specs.Inner.{Within, Gathered, LanesRight, RowsRight};
 
 use line::Run;
+use std::array;
 use strip::Syndromes;
 
 // Whether every line of `count` runs is a codeword: of `run`, and of each next one, `gap` bytes behind the one before.
@@ -90,11 +91,7 @@ fn gather(s: &[u8], at: usize, gap: usize) -> [u8; 64]
     requires { at + gap * 63 < length s.now }
     ensures { Gathered s.now at gap result }
 {
-    let mut c = [0u8; 64];
-    for t in 0..64 {
-        c[t] = s[at + gap * t];
-    }
-    c
+    array::from_fn(|t| s[at + gap * t])
 }
 
 // The run that begins so many bytes behind another.

@@ -5,6 +5,8 @@ ghost use Rattle.std.specs.Prelude.{◌≡◌, ◌+◌, ◌<◌, ◌≤◌, leng
 ghost use Rattle.span.specs.Decision.{Decides};
 ghost use Rattle.span.specs.Span.{Copied, Piece, CopyOutcome, StripOutcome, SetOutcome, SameBytes, ZeroBytes};
 
+use std::array;
+
 // Copies n bytes of `src` from `from` on to `dst` from `to` on, where both spans lie inside; else changes nothing.
 pub fn copy(src: &[u8], dst: &mut [u8], from: usize, to: usize, n: usize) -> bool
     ensures { CopyOutcome src.now from dst.old to n dst.new result }
@@ -106,11 +108,7 @@ fn taken(src: &[u8], from: usize) -> [u8; 16]
     requires { from + 16 ≤ length src.now }
     ensures { Piece src.now from 16 result }
 {
-    let mut c = [0u8; 16];
-    for i in 0..16 {
-        c[i] = src[from + i];
-    }
-    c
+    array::from_fn(|i| src[from + i])
 }
 
 // Writes 16 bytes from `to` on.

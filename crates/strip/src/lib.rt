@@ -6,6 +6,8 @@ ghost use Rattle.std.specs.Prelude.{◌≡◌, replicate};
 ghost use Rattle.span.specs.Decision.{Decides};
 ghost use Rattle.strip.specs.Strip.{Step, Products, Sums, AllZero};
 
+use std::array;
+
 // The first and the second syndrome of each of up to N lines.
 #[derive(Clone, Copy)]
 pub struct Syndromes<const N: usize> {
@@ -52,11 +54,7 @@ impl Syndromes<64> {
     pub fn products(self, reduction: u8, b: u8, d: u8) -> [u8; 64]
         ensures { Products reduction b d self.first self.second result }
     {
-        let mut y = [0u8; 64];
-        for t in 0..64 {
-            y[t] = field::dot(reduction, self.first[t], b, self.second[t], d);
-        }
-        y
+        array::from_fn(|t| field::dot(reduction, self.first[t], b, self.second[t], d))
     }
 }
 
@@ -64,9 +62,5 @@ impl Syndromes<64> {
 pub fn sums(a: [u8; 64], b: [u8; 64]) -> [u8; 64]
     ensures { Sums a b result }
 {
-    let mut c = [0u8; 64];
-    for t in 0..64 {
-        c[t] = a[t] ^ b[t];
-    }
-    c
+    array::from_fn(|t| a[t] ^ b[t])
 }
