@@ -66,6 +66,7 @@ fn erased_to_end(run: Run, e: Erasures) -> bool
     0 < e.j && run.len <= e.k + 1 && run.len <= e.j + 2
 }
 
+// The kernel for a block's width. It is picked as in `codeword_block`: one switch for both would take three closures a call.
 fn combine(s: &mut [u8], reduction: u8, read: Run, run: Run, e: Erasures)
     requires { (Inside read (length s.old)) × (read.width ≡ run.width) × Erasable run e (length s.old) × (run.width ≤ 4096) }
     ensures { Combining reduction read run e s.old s.new }

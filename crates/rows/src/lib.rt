@@ -57,7 +57,7 @@ fn by_strips(s: &[u8], reduction: u8, run: Run, gap: usize, count: usize) -> boo
     ensures { Decides (RowsRight reduction run gap 0 count s.now) result }
 {
     let last = count - 64;
-    // No `all`: nothing is proved of one over steps, and of one over strips the check does not find `returns`, what a turn with two products answers.
+    // By `all` the proof did not close: `returns` needs what a turn with two products answers.
     for from in (0..last).step_by(64) {
         if !strip_of_rows(s, reduction, moved(run, gap * from), gap) {
             return false;

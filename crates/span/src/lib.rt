@@ -1,4 +1,5 @@
-// Spans: so many bytes of a slice from a place on, copied, set, compared, tested for 00h. Every public function is total.
+// Spans: so many bytes of a slice from a place on, copied, set, compared, tested for 00h. Every public function is total. A bool of `copy` and `set`
+// says whether the spans lay inside: there is one way to fail, and each caller knows before that they do.
 #![tactic(auto)]
 
 ghost use Rattle.std.specs.Prelude.{◌≡◌, ◌+◌, ◌<◌, ◌≤◌, length, take, drop, MatchOption};
