@@ -1,5 +1,6 @@
 // The field GF(256): addition by exclusive or, multiplication by shift and conditional reduction with masks, with no
-// table and no branch on data. The reduction byte is a parameter; `reduction` is document 01's.
+// table and no branch on data. The reduction byte is a parameter, here and in the crates above up to `rows`: each function is exact for each of the
+// 256 bytes, and the laws are over it. `reduction` is document 01's.
 #![tactic(auto, unfolding(crate::specs::Field::add, crate::specs::Field::reduction))]
 
 ghost use Rattle.std.specs.Prelude.{◌≡◌, ◌*◌, ◌%◌};

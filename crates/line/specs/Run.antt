@@ -41,10 +41,14 @@ pub record ErasuresWritten (r : ℕ) (run : Run) (e : Erasures) (before after : 
       line_at after run t e.j ≡
       add (syndrome0 (erased e.j e.k (line_at before run t)) run.len) (line_at after run t e.k)
 
+-- The run lies inside a list of n bytes, and j ≤ k are places of its lines.
+abbrev pub Erasable : Run → Erasures → ℕ → Type 0
+Erasable run e n = (Inside run n) × (e.j ≤ e.k) × (e.k < run.len)
+
 -- What `solve` answers and leaves: the lines written where the run lies inside and j ≤ k are places of it.
 abbrev pub SolveRun : ℕ → Run → Erasures → List ℕ → List ℕ → Bool → Type 0
 SolveRun r run e before after answer =
-    Guarded (Inside run (length before) × (e.j ≤ e.k) × (e.k < run.len)) (ErasuresWritten r run e before after) before after answer
+    Guarded (Erasable run e (length before)) (ErasuresWritten r run e before after) before after answer
 
 -- `from` holds the data places of the lines of `to`: all but their last two.
 pub record Feeds (from to : Run) (n : ℕ) : Type 0 where

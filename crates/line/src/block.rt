@@ -2,7 +2,7 @@
 // it has fewer than 64 lines.
 ghost use Rattle.std.specs.Prelude.{◌≡◌, ℕ, ◌+◌, ◌*◌, ◌^◌, ◌<◌, ◌≤◌, length};
 ghost use Rattle.line.specs.Line.{Codeword};
-ghost use Rattle.line.specs.Run.{Inside, ErasuresWritten, line_at};
+ghost use Rattle.line.specs.Run.{Inside, Erasable, ErasuresWritten, line_at};
 ghost use Rattle.span.specs.Decision.{Decides};
 ghost use Rattle.span.specs.Span.{SetTo};
 ghost use Rattle.line.specs.Inner.Block.{Block, Cover, ToEnd, Combining, part, places};
@@ -32,7 +32,7 @@ impl Run {
 
 // Writes both erasures of every line of the run.
 pub(crate) fn solve_blocks(s: &mut [u8], reduction: u8, run: Run, e: Erasures)
-    requires { (Inside run (length s.old)) × (e.j ≤ e.k) × (e.k < run.len) }
+    requires { Erasable run e (length s.old) }
     ensures { ErasuresWritten reduction run e s.old s.new }
 {
     let mut done = 0;
@@ -46,7 +46,7 @@ pub(crate) fn solve_blocks(s: &mut [u8], reduction: u8, run: Run, e: Erasures)
 
 // Where every place from j on is erased, the places before j alone count: no byte at an erasure is read or cleared.
 fn solve_block(s: &mut [u8], reduction: u8, run: Run, e: Erasures)
-    requires { (Inside run (length s.old)) × (run.width ≤ 4096) × (e.j ≤ e.k) × (e.k < run.len) }
+    requires { Erasable run e (length s.old) × (run.width ≤ 4096) }
     ensures { ErasuresWritten reduction run e s.old s.new }
 {
     if erased_to_end(run, e) {
@@ -66,8 +66,9 @@ fn erased_to_end(run: Run, e: Erasures) -> bool
     0 < e.j && run.len <= e.k + 1 && run.len <= e.j + 2
 }
 
+// The kernel for a block's width. It is picked as in `codeword_block`: one switch for both would take three closures a call.
 fn combine(s: &mut [u8], reduction: u8, read: Run, run: Run, e: Erasures)
-    requires { (Inside read (length s.old)) × (read.width ≡ run.width) × (Inside run (length s.old)) × (run.width ≤ 4096) × (e.j ≤ e.k) × (e.k < run.len) }
+    requires { (Inside read (length s.old)) × (read.width ≡ run.width) × Erasable run e (length s.old) × (run.width ≤ 4096) }
     ensures { Combining reduction read run e s.old s.new }
 {
     if run.width == 64 {

@@ -52,8 +52,7 @@ fn correct_line(s: &mut [u8], reduction: u8, run: Run, t: usize, v0: u8, v1: u8)
     requires { (Inside run (length s.old)) × (t < run.width) × (v0 ≡ syndrome0 (line_at s.old run t) run.len) × (v1 ≡ syndrome1 reduction (line_at s.old run t) run.len) }
     ensures { Corrected reduction (part run t 1) s.old s.new }
 {
-    let place = solver::error_place(reduction, v0, v1, run.len);
-    let Some(j) = place else {
+    let Some(j) = solver::error_place(reduction, v0, v1, run.len) else {
         return;
     };
     let p = run.first + run.stride * j + t;

@@ -1,5 +1,6 @@
 // Lines: both syndromes of many neighbouring lines at once, erasures filled in, codewords written and recognised, single errors
-// corrected. Every public function is total, and exact for every reduction byte.
+// corrected. Every public function is total, and exact for every reduction byte, which stays a parameter: the laws are over it. A bool says
+// whether the runs lay inside: there is one way to fail, and each caller knows before that they do.
 #![tactic(auto)]
 
 mod block;
@@ -23,7 +24,8 @@ pub struct Run {
 }
 
 // The erasures j ≤ k of each line of a run, one erasure where they are equal, with the row [b, d] of the inverted array that gives
-// the byte at k. Only `erasures_at` builds one.
+// the byte at k. Only `erasures_at` builds one, of any places: those of a run are told by `solve`. A run and its erasures stay two parameters:
+// in one struct every use of theirs would be longer.
 #[derive(Clone, Copy)]
 pub struct Erasures {
     j: usize,
@@ -63,6 +65,7 @@ pub fn encode(data: &[u8], s: &mut [u8], reduction: u8, from: Run, to: Run) -> b
     if from.len + 2 != to.len || from.width != to.width {
         return false;
     }
+    // There is no From of usize for u8; a run that lies inside has at most 255 places.
     let last = (to.len - 1) as u8;
     let e = erasures_at(reduction, last - 1, last);
     encoder::encode_blocks(data, s, reduction, from, to, e);
@@ -91,8 +94,7 @@ pub fn correct(s: &mut [u8], reduction: u8, run: Run) -> bool
 fn inside(n: usize, run: Run) -> bool
     ensures { Decides (Inside run n) result }
 {
-    1 <= run.len
-        && run.len <= 255
+    (1..=255).contains(&run.len)
         && run.width <= run.stride
         && run.width <= n
         && run.first <= n - run.width

@@ -3,14 +3,14 @@
 ghost use Rattle.std.specs.Prelude.{◌≡◌, true, ℕ, ◌<◌, ◌≤◌, length};
 ghost use Rattle.span.specs.Decision.{Decides};
 ghost use Rattle.line.specs.Line.{Codeword};
-ghost use Rattle.line.specs.Run.{Inside, line_at};
+ghost use Rattle.line.specs.Run.{Inside, Erasable, line_at};
 ghost use Rattle.line.specs.Inner.Block.{Roomy, Combined, Combining};
 
 use crate::{Erasures, Run, strips, wide};
 
 // Writes both erasures of each line of `run` from the syndromes of the lines of `read`.
 pub(crate) fn solve(s: &mut [u8], reduction: u8, read: Run, run: Run, e: Erasures)
-    requires { (Inside read (length s.old)) × (read.width ≡ run.width) × (Inside run (length s.old)) × (run.width < 64) × (e.j ≤ e.k) × (e.k < run.len) }
+    requires { (Inside read (length s.old)) × (read.width ≡ run.width) × Erasable run e (length s.old) × (run.width < 64) }
     ensures { Combining reduction read run e s.old s.new }
 {
     if roomy(s.len(), read) {
@@ -44,7 +44,7 @@ fn roomy(n: usize, run: Run) -> bool
 
 // Writes the bytes at both erasures of the run's lines, which are the first of a strip; the later one last, so that it stands where both are one.
 fn combine(s: &mut [u8], sums: strip::Syndromes<64>, reduction: u8, run: Run, e: Erasures)
-    requires { (Inside run (length s.old)) × (run.width ≤ 64) × (e.j ≤ e.k) × (e.k < run.len) }
+    requires { Erasable run e (length s.old) × (run.width ≤ 64) }
     ensures { Combined reduction run e sums.first sums.second s.old s.new }
 {
     let y = sums.products(reduction, e.b, e.d);

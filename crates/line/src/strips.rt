@@ -2,15 +2,16 @@
 ghost use Rattle.std.specs.Prelude.{◌≡◌, ℕ, ◌+◌, ◌<◌, ◌≤◌, length};
 ghost use Rattle.span.specs.Span.{Copied, Piece};
 ghost use Rattle.line.specs.Line.{Codeword};
-ghost use Rattle.line.specs.Run.{Inside, line_at};
+ghost use Rattle.line.specs.Run.{Inside, Erasable, line_at};
 ghost use Rattle.span.specs.Decision.{Decides};
 ghost use Rattle.line.specs.Inner.Block.{Syndromes, Combined, Combining, Roomy};
 
 use crate::{Erasures, Run};
+use std::array;
 
 // Writes both erasures of each line of `run` from the syndromes of the lines of `read`.
 pub(crate) fn solve(s: &mut [u8], reduction: u8, read: Run, run: Run, e: Erasures)
-    requires { (Inside read (length s.old)) × (read.width ≡ 64) × (Inside run (length s.old)) × (run.width ≡ 64) × (e.j ≤ e.k) × (e.k < run.len) }
+    requires { (Inside read (length s.old)) × (read.width ≡ 64) × Erasable run e (length s.old) × (run.width ≡ 64) }
     ensures { Combining reduction read run e s.old s.new }
 {
     let sums = syndromes(s, reduction, read);
@@ -42,11 +43,7 @@ fn load(s: &[u8], at: usize) -> [u8; 64]
     requires { at + 64 ≤ length s.now }
     ensures { Piece s.now at 64 result }
 {
-    let mut c = [0u8; 64];
-    for t in 0..64 {
-        c[t] = s[at + t];
-    }
-    c
+    array::from_fn(|t| s[at + t])
 }
 
 // Writes 64 bytes from `at` on, in the same way.
@@ -59,7 +56,8 @@ fn store(s: &mut [u8], at: usize, c: [u8; 64])
     }
 }
 
-// Writes the bytes at both erasures of each line; the later one last, so that it stands where both are one.
+// Writes the bytes at both erasures of each line; the later one last, so that it stands where both are one. By its twin of `narrow`, whose copies are
+// calls, `solve` takes six times as many instructions.
 pub(crate) fn combine(
     s: &mut [u8],
     sums: strip::Syndromes<64>,
@@ -67,7 +65,7 @@ pub(crate) fn combine(
     run: Run,
     e: Erasures,
 )
-    requires { (Inside run (length s.old)) × (run.width ≡ 64) × (e.j ≤ e.k) × (e.k < run.len) }
+    requires { Erasable run e (length s.old) × (run.width ≡ 64) }
     ensures { Combined reduction run e sums.first sums.second s.old s.new }
 {
     let y = sums.products(reduction, e.b, e.d);

@@ -2,7 +2,7 @@
 // lines, so that it serves narrow blocks as well.
 ghost use Rattle.std.specs.Prelude.{ℕ, ◌+◌, ◌*◌, ◌/◌, ◌<◌, ◌≤◌, min, length};
 ghost use Rattle.line.specs.Line.{Codeword};
-ghost use Rattle.line.specs.Run.{Inside, line_at};
+ghost use Rattle.line.specs.Run.{Inside, Erasable, line_at};
 ghost use Rattle.span.specs.Decision.{Decides};
 ghost use Rattle.line.specs.Inner.Wide.{Room, Empty, Tails, One, Four};
 ghost use Rattle.line.specs.Inner.Block.{Syndromes, Combined, Combining};
@@ -11,7 +11,7 @@ use crate::{Erasures, Run};
 
 // Writes both erasures of each line of `run` from the syndromes of the lines of `read`.
 pub(crate) fn solve<const N: usize>(s: &mut [u8], reduction: u8, read: Run, run: Run, e: Erasures)
-    requires { (Inside read (length s.old)) × Room read N × (Inside run (length s.old)) × Room run N × (e.j ≤ e.k) × (e.k < run.len) }
+    requires { (Inside read (length s.old)) × Room read N × Erasable run e (length s.old) × Room run N }
     ensures { Combining reduction read run e s.old s.new }
 {
     let mut sums: strip::Syndromes<N> = strip::Syndromes::zeros();
@@ -137,7 +137,7 @@ pub(crate) fn combine<const N: usize>(
     run: Run,
     e: Erasures,
 )
-    requires { (Inside run (length s.old)) × Room run N × (e.j ≤ e.k) × (e.k < run.len) }
+    requires { Erasable run e (length s.old) × Room run N }
     ensures { Combined reduction run e sums.now.first sums.now.second s.old s.new }
 {
     let at_j = run.first + run.stride * e.j;

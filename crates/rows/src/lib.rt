@@ -8,6 +8,7 @@ ghost use Rattle.rows.specs.Rows.{behind, AllRows};
 ghost use Rattle.rows.specs.Inner.{Within, Gathered, LanesRight, RowsRight};
 
 use line::Run;
+use std::array;
 use strip::Syndromes;
 
 // Whether every line of `count` runs is a codeword: of `run`, and of each next one, `gap` bytes behind the one before.
@@ -56,7 +57,7 @@ fn by_strips(s: &[u8], reduction: u8, run: Run, gap: usize, count: usize) -> boo
     ensures { Decides (RowsRight reduction run gap 0 count s.now) result }
 {
     let last = count - 64;
-    // No `all`: nothing is proved of one over steps, and of one over strips the check does not find `returns`, what a turn with two products answers.
+    // By `all` the proof did not close: `returns` needs what a turn with two products answers.
     for from in (0..last).step_by(64) {
         if !strip_of_rows(s, reduction, moved(run, gap * from), gap) {
             return false;
@@ -90,11 +91,7 @@ fn gather(s: &[u8], at: usize, gap: usize) -> [u8; 64]
     requires { at + gap * 63 < length s.now }
     ensures { Gathered s.now at gap result }
 {
-    let mut c = [0u8; 64];
-    for t in 0..64 {
-        c[t] = s[at + gap * t];
-    }
-    c
+    array::from_fn(|t| s[at + gap * t])
 }
 
 // The run that begins so many bytes behind another.

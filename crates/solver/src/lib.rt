@@ -43,7 +43,7 @@ pub fn error_place(reduction: u8, v0: u8, v1: u8, n: usize) -> Option<usize>
     search(reduction, v0, v1, n)
 }
 
-// The first place below n at which v0, multiplied by the power of α, is v1.
+// The first place below n at which v0, multiplied by the power of α, is v1. No `position`: the product goes on from place to place.
 fn search(reduction: u8, v0: u8, v1: u8, n: usize) -> Option<usize>
     requires { (v0 ≡ 0 → ⊥) × (v1 ≡ 0 → ⊥) }
     ensures { PlaceOutcome reduction v0 v1 n result }

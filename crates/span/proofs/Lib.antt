@@ -13,6 +13,8 @@ pub mod Copying
 pub mod Setting
 -- Putting: a list written at a place, one list behind another.
 pub mod Putting
+-- Made: an array made from a function of the place.
+pub mod Made
 -- Joining: bytes joined by or are 00h exactly when each is.
 pub mod Joining
 -- Differing: spans that do not agree differ at a byte.

@@ -1,9 +1,12 @@
-// Spans: so many bytes of a slice from a place on, copied, set, compared, tested for 00h. Every public function is total.
+// Spans: so many bytes of a slice from a place on, copied, set, compared, tested for 00h. Every public function is total. A bool of `copy` and `set`
+// says whether the spans lay inside: there is one way to fail, and each caller knows before that they do.
 #![tactic(auto)]
 
 ghost use Rattle.std.specs.Prelude.{◌≡◌, ◌+◌, ◌<◌, ◌≤◌, length, take, drop, MatchOption};
 ghost use Rattle.span.specs.Decision.{Decides};
 ghost use Rattle.span.specs.Span.{Copied, Piece, CopyOutcome, StripOutcome, SetOutcome, SameBytes, ZeroBytes};
+
+use std::array;
 
 // Copies n bytes of `src` from `from` on to `dst` from `to` on, where both spans lie inside; else changes nothing.
 pub fn copy(src: &[u8], dst: &mut [u8], from: usize, to: usize, n: usize) -> bool
@@ -106,11 +109,7 @@ fn taken(src: &[u8], from: usize) -> [u8; 16]
     requires { from + 16 ≤ length src.now }
     ensures { Piece src.now from 16 result }
 {
-    let mut c = [0u8; 16];
-    for i in 0..16 {
-        c[i] = src[from + i];
-    }
-    c
+    array::from_fn(|i| src[from + i])
 }
 
 // Writes 16 bytes from `to` on.

@@ -6,6 +6,8 @@ ghost use Rattle.std.specs.Prelude.{◌≡◌, replicate};
 ghost use Rattle.span.specs.Decision.{Decides};
 ghost use Rattle.strip.specs.Strip.{Step, Products, Sums, AllZero};
 
+use std::array;
+
 // The first and the second syndrome of each of up to N lines.
 #[derive(Clone, Copy)]
 pub struct Syndromes<const N: usize> {
@@ -38,7 +40,8 @@ impl<const N: usize> Syndromes<N> {
 }
 
 impl Syndromes<64> {
-    // One of Horner's steps, by a place whose bytes are c.
+    // One of Horner's steps, by a place whose bytes are c. Its loops in `line` and `rows` stay apart: a function that called for the bytes of each
+    // place would have to require that it may, and a function that another crate can call requires nothing.
     pub fn step(&mut self, reduction: u8, c: [u8; 64])
         ensures { Step reduction c self.old.first self.old.second self.new.first self.new.second }
     {
@@ -52,11 +55,7 @@ impl Syndromes<64> {
     pub fn products(self, reduction: u8, b: u8, d: u8) -> [u8; 64]
         ensures { Products reduction b d self.first self.second result }
     {
-        let mut y = [0u8; 64];
-        for t in 0..64 {
-            y[t] = field::dot(reduction, self.first[t], b, self.second[t], d);
-        }
-        y
+        array::from_fn(|t| field::dot(reduction, self.first[t], b, self.second[t], d))
     }
 }
 
@@ -64,9 +63,5 @@ impl Syndromes<64> {
 pub fn sums(a: [u8; 64], b: [u8; 64]) -> [u8; 64]
     ensures { Sums a b result }
 {
-    let mut c = [0u8; 64];
-    for t in 0..64 {
-        c[t] = a[t] ^ b[t];
-    }
-    c
+    array::from_fn(|t| a[t] ^ b[t])
 }

@@ -1,12 +1,10 @@
--- `rows::gather` copies byte after byte into an array of zeros.
-use mathlib.Core.Path.{◌∙◌}
-use native.Mathlib.Omega.{arith}
+-- `rows::gather` copies bytes that lie apart into an array.
+use Prim.Native.Nat.{◌+◌, ◌*◌}
+use lib.ListN.{get_or}
+use Rattle.std.proofs.Common.{rules}
+use Rattle.span.proofs.Made.{made-at}
 use Rattle.rows.proofs.gather.Goals as goal
-use Rattle.rows.proofs.gather.Goals.{In-loop-t}
 
 pub returns : goal.returns
 returns c =
-    record {
-      size = c.loop-t.invariant.1.size ∙ c.loop-t.invariant.0;
-      bytes = λ u h. c.loop-t.invariant.1.done u (omega arith) (omega arith);
-    }
+    record { size = c.from_fn.ensures.items.long; bytes = made-at _ _ (λ u. get_or c.args.s.now (c.args.at + c.args.gap * u) 0) (λ t y q k. search rules) 64 c.from_fn.ensures.items }

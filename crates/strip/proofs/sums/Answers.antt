@@ -1,20 +1,11 @@
 -- `strip::sums` adds two arrays byte by byte.
-use mathlib.Core.Path.{refl, ◌∙◌}
-use native.Mathlib.Omega.{arith}
+use lib.ListN.{get_or}
+use Rattle.std.proofs.Common.{rules}
 use Rattle.field.specs.Field.{add}
-use Rattle.strip.proofs.Updated.{updated-more}
+use Rattle.span.proofs.Made.{made-at}
 use Rattle.strip.proofs.sums.Goals as goal
 
-pub loop-t-preserved : goal.loop-t-preserved
-unfolding add
-loop-t-preserved c = (
-  c.loop-t.invariant.0,
-  updated-more c.loop-t.invariant.1 _ _ (omega arith) (omega arith) refl refl,
-)
-
 pub returns : goal.returns
+unfolding add
 returns c =
-    record {
-      size = c.loop-t.invariant.1.size ∙ c.loop-t.invariant.0;
-      bytes = λ t h. c.loop-t.invariant.1.done t (omega arith) (omega arith);
-    }
+    record { size = c.from_fn.ensures.items.long; bytes = made-at _ _ (λ t. add (get_or c.args.a t 0) (get_or c.args.b t 0)) (λ t y q k. search rules) 64 c.from_fn.ensures.items }

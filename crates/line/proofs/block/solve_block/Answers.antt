@@ -8,21 +8,19 @@ use Rattle.line.proofs.block.solve_block.Goals as goal
 pub combine-requires : goal.combine-requires
 combine-requires c =
     let end = c.erased_to_end.ensures.yes_then c.if-erased_to_end.true in (
-      places-inside c.first_places.ensures end.some_place (omega arith) c.requires.0,
+      places-inside c.first_places.ensures end.some_place (omega arith) c.requires.0.0,
       places-width _ _ _ c.first_places.ensures,
       c.requires.0,
       c.requires.1,
-      c.requires.2,
-      c.requires.3,
     )
 
 pub returns-then-erased_to_end : goal.returns-then-erased_to_end
-returns-then-erased_to_end c = combining-end c.requires.2 (c.erased_to_end.ensures.yes_then c.if-erased_to_end.true) c.first_places.ensures c.combine.ensures
+returns-then-erased_to_end c = combining-end c.requires.0.1 (c.erased_to_end.ensures.yes_then c.if-erased_to_end.true) c.first_places.ensures c.combine.ensures
 
 pub combine-requires-2 : goal.combine-requires-2
 combine-requires-2 c =
-    let inside = inside-size c.requires.0 (c.clear-2.ensures.kept.size ∙ c.clear.ensures.kept.size) in
-    (inside, refl, inside, c.requires.1, c.requires.2, c.requires.3)
+    let inside = inside-size c.requires.0.0 (c.clear-2.ensures.kept.size ∙ c.clear.ensures.kept.size) in
+    (inside, refl, (inside, c.requires.0.1, c.requires.0.2), c.requires.1)
 
 pub returns : goal.returns
-returns c = combining-cleared c.requires.0.apart c.clear.ensures c.clear-2.ensures c.combine-2.ensures
+returns c = combining-cleared c.requires.0.0.apart c.clear.ensures c.clear-2.ensures c.combine-2.ensures

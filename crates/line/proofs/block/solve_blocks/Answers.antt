@@ -9,12 +9,10 @@ pub loop-done-init : goal.loop-done-init
 loop-done-init c = (omega arith, changed-none _ _ _ _)
 
 pub solve_block-requires : goal.solve_block-requires
-solve_block-requires c = (
-  cover-inside _ _ _ _ (inside-size c.requires.0 c.loop-done.invariant.1.size) c.next_block-next.ensures,
-  c.next_block-next.ensures.few_lines,
-  c.requires.1,
-  cover-place _ _ _ _ c.next_block-next.ensures c.requires.2,
-)
+solve_block-requires c =
+    let next = c.next_block-next.ensures in
+    let inside = cover-inside _ _ _ _ (inside-size c.requires.0 c.loop-done.invariant.1.size) next in
+    ((inside, c.requires.1, cover-place _ _ _ _ next c.requires.2), next.few_lines)
 
 pub overflow_sub-done : goal.overflow_sub-done
 overflow_sub-done c = omega (arith, cover-first c.next_block-next.ensures)

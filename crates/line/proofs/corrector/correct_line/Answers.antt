@@ -13,7 +13,7 @@ use Rattle.line.proofs.corrector.correct_line.Goals.{In-Some, Start}
 found :
     (c : In-Some) →
     PlaceOutcome c.args.reduction c.args.v0 c.args.v1 c.args.run.len (Some c.in-Some.j)
-found c = subst (PlaceOutcome _ _ _ _) c.in-Some.is c.error_place-place.ensures
+found c = subst (PlaceOutcome _ _ _ _) c.in-Some.is c.error_place.ensures
 
 strip :
     (c : In-Some) →
@@ -25,7 +25,7 @@ pub returns-in_default : goal.returns-in_default
 unfolding PlaceOutcome
 returns-in_default c =
     corrected-nowhere _ _ _ _ _ _ c.requires.2 c.requires.3
-    (subst (PlaceOutcome _ _ _ _) c.in_default.is c.error_place-place.ensures)
+    (subst (PlaceOutcome _ _ _ _) c.in_default.is c.error_place.ensures)
 
 pub overflow_mul-p : goal.overflow_mul-p
 overflow_mul-p c = omega (arith, strip (goal.at.overflow_mul-p c).In-Some)

@@ -19,12 +19,9 @@ combine-requires c =
     let pre = c.requires in
     let es = c.lines_from-source.ensures in
     let et = c.lines_from-target.ensures in
-    let order = parity-order _ pre.2 pre.1 in (
-      inside-size (strip-inside _ _ _ es et pre.3 pre.0) c.place_strip-sums.ensures.0.size,
-      strip-width _ _ _ es et pre.3,
-      order.0,
-      omega (arith, order.1, strip-places _ _ _ es et pre.3),
-    )
+    let order = parity-order _ pre.2 pre.1 in
+    let inside = inside-size (strip-inside _ _ _ es et pre.3 pre.0) c.place_strip-sums.ensures.0.size in
+    ((inside, order.0, omega (arith, order.1, strip-places _ _ _ es et pre.3)), strip-width _ _ _ es et pre.3)
 
 pub returns : goal.returns
 returns c =

@@ -10,7 +10,7 @@ use Rattle.line.proofs.narrow.combine.Goals.{Start}
 place :
     (c : Start) (i : ℕ) → i < c.args.run.len →
     c.args.run.first + c.args.run.stride * i + c.args.run.width ≤ length c.args.s.now
-place c i h = c.requires.0.fits i h
+place c i h = c.requires.0.0.fits i h
 
 pub returns : goal.returns
 returns c =
@@ -18,5 +18,5 @@ returns c =
     let y = c.products-y.ensures in
     let x = c.sums-x.ensures in
     let first = (c.copy.ensures.done (omega (arith, x.size, start.requires.1), place start start.args.e.j (omega arith))).1 in
-    let second = (c.copy-2.ensures.done (omega (arith, y.size, start.requires.1), omega (arith, place start start.args.e.k start.requires.3, first.kept.size))).1 in
-    copied-combined refl start.requires.1 start.requires.0.apart y x first second
+    let second = (c.copy-2.ensures.done (omega (arith, y.size, start.requires.1), omega (arith, place start start.args.e.k start.requires.0.2, first.kept.size))).1 in
+    copied-combined refl start.requires.1 start.requires.0.0.apart y x first second

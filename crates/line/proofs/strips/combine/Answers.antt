@@ -5,4 +5,4 @@ use Rattle.line.proofs.strips.combine.Goals as goal
 use Rattle.line.proofs.strips.combine.Goals.{Start}
 
 pub returns : goal.returns
-returns c = copied-combined c.requires.1 (omega arith) c.requires.0.apart c.products-y.ensures c.sums.ensures c.store.ensures c.store-2.ensures
+returns c = copied-combined c.requires.1 (omega arith) c.requires.0.0.apart c.products-y.ensures c.sums.ensures c.store.ensures c.store-2.ensures

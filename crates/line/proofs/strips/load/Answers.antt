@@ -1,16 +1,10 @@
--- `line::strips::load` copies byte after byte into an array of zeros.
-use mathlib.Core.Path.{◌≡◌, refl}
-use native.Mathlib.Omega.{arith}
-use Rattle.span.proofs.Copying.{copied_more, copied-piece}
+-- `line::strips::load` copies 64 bytes into an array.
+use Prim.Native.Nat.{◌+◌}
+use lib.ListN.{get_or}
+use Rattle.std.proofs.Common.{rules}
+use Rattle.span.proofs.Made.{made-at}
 use Rattle.line.proofs.strips.load.Goals as goal
-
-pub loop-t-preserved : goal.loop-t-preserved
-loop-t-preserved c = (
-  c.loop-t.invariant.0,
-  copied_more _ _ _ _ _ _ _ _ (omega arith) refl (omega (arith, c.loop-t.invariant.1.kept.size)) c.loop-t.invariant.1,
-)
 
 pub returns : goal.returns
 returns c =
-    let all : c.loop-t.t ≡ 64 = omega arith in
-    copied-piece c.loop-t.invariant.0 (rw all at c.loop-t.invariant.1)
+    record { size = c.from_fn.ensures.items.long; bytes = made-at _ _ (λ i. get_or c.args.s.now (c.args.at + i) 0) (λ t y q k. search rules) 64 c.from_fn.ensures.items }

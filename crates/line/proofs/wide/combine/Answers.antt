@@ -16,12 +16,12 @@ use Rattle.line.proofs.wide.combine.Given.{Over}
 strip-j :
     (g : Over) (c : Start g) →
     c.args.run.first + c.args.run.stride * c.args.e.j + c.args.run.width ≤ length c.args.s.now
-strip-j g c = c.requires.0.fits c.args.e.j (omega arith)
+strip-j g c = c.requires.0.0.fits c.args.e.j (omega arith)
 
 strip-k :
     (g : Over) (c : Start g) →
     c.args.run.first + c.args.run.stride * c.args.e.k + c.args.run.width ≤ length c.args.s.now
-strip-k g c = c.requires.0.fits c.args.e.k c.requires.3
+strip-k g c = c.requires.0.0.fits c.args.e.k c.requires.0.2
 
 -- the two strips are one, or do not meet
 strips-apart :
@@ -31,7 +31,7 @@ strips-apart :
     ≤ c.args.run.first + c.args.run.stride * c.args.e.k)
 strips-apart g c =
     elim (dec_lt c.args.e.j c.args.e.k) [
-      | yes l ↦ inr (omega (arith, stride-below c.args.run.stride c.args.e.j c.args.e.k l, c.requires.0.apart))
+      | yes l ↦ inr (omega (arith, stride-below c.args.run.stride c.args.e.j c.args.e.k l, c.requires.0.0.apart))
       | no l ↦
           let e : c.args.e.j ≡ c.args.e.k = omega arith in
           inl (ap (λ (i : ℕ). c.args.run.first + c.args.run.stride * i) e)
@@ -55,6 +55,6 @@ returns g c =
       later = λ t h. c.loop-t.invariant.later t (omega arith);
       earlier =
           λ l t h. c.loop-t.invariant.earlier
-          (omega (arith, stride-below start.args.run.stride _ _ l, start.requires.0.apart)) t (omega arith)
+          (omega (arith, stride-below start.args.run.stride _ _ l, start.requires.0.0.apart)) t (omega arith)
           ∙ ap (add (get_or start.args.sums.now.first t 0)) (sym (c.loop-t.invariant.later t (omega arith)));
     }

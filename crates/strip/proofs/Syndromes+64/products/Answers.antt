@@ -1,18 +1,16 @@
 -- `strip::Syndromes::products` computes the byte at the later erasure of each line.
-use mathlib.Core.Path.{refl, ◌∙◌}
-use native.Mathlib.Omega.{arith}
-use Rattle.strip.proofs.Updated.{updated-more}
+use lib.ListN.{get_or}
+use Rattle.std.proofs.Common.{rules}
+use Rattle.field.specs.Field.{add, mul}
+use Rattle.span.proofs.Made.{made-at}
 use Rattle.strip.proofs.Syndromes+64.products.Goals as goal
-
-pub loop-t-preserved : goal.loop-t-preserved
-loop-t-preserved c = (
-  c.loop-t.invariant.0,
-  updated-more c.loop-t.invariant.1 _ _ (omega arith) (omega arith) c.dot.ensures refl,
-)
 
 pub returns : goal.returns
 returns c =
     record {
-      size = c.loop-t.invariant.1.size ∙ c.loop-t.invariant.0;
-      bytes = λ t h. c.loop-t.invariant.1.done t (omega arith) (omega arith);
+      size = c.from_fn.ensures.items.long;
+      bytes =
+          made-at _ _
+          (λ t. add (mul c.args.reduction (get_or c.args.self.first t 0) c.args.b) (mul c.args.reduction (get_or c.args.self.second t 0) c.args.d))
+          (λ t y q k. search rules) 64 c.from_fn.ensures.items;
     }
