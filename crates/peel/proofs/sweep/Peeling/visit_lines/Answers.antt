@@ -18,7 +18,7 @@ visited :
     after.cube.now after.flags.now after.marks (c.loop-m.filled + c.visit-step.result.filled)
 visited c =
     let so_far = c.loop-m.invariant in
-    visited-next c.requires.0 c.requires.1 so_far.visited (rw so_far.shape_is at c.visit-step.ensures.visited)
+    visited-next c.requires.0.0 c.requires.0.1 so_far.visited (rw so_far.shape_is at c.visit-step.ensures.visited)
 
 pub overflow_add-filled : goal.overflow_add-filled
 overflow_add-filled c =
