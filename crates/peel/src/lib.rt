@@ -2,6 +2,7 @@
 #![tactic(auto)]
 
 mod on_line;
+mod state;
 mod sweep;
 mod wake;
 
@@ -10,7 +11,7 @@ ghost use Rattle.span.specs.Decision.{Decides};
 ghost use Rattle.peel.specs.Peel.{Sized, PeelOutcome};
 
 use shape::Shape;
-use sweep::Peeling;
+use state::Peeling;
 
 // Peels a cube whose flags are 1 at the missing cells: a cell that is filled gets flag 3. Where cube and flags have not the lengths of a valid
 // shape, changes nothing and says so. It says it by a bool: there is this one way to fail, it has no number, and who checked before passes over it.

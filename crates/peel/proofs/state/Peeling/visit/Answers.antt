@@ -7,8 +7,8 @@ use Rattle.shape.specs.Shapes.{line_of}
 use Rattle.shape.proofs.Geometry.{line-found, line-stride-pos}
 use Rattle.cube.proofs.AxisRuns.{lines-ended}
 use Rattle.peel.proofs.Visiting.{neighbours-of, visited-past, visited-lines}
-use Rattle.peel.proofs.sweep.Peeling.visit.Goals as goal
-use Rattle.peel.proofs.sweep.Peeling.visit.Goals.{In-Ok}
+use Rattle.peel.proofs.state.Peeling.visit.Goals as goal
+use Rattle.peel.proofs.state.Peeling.visit.Goals.{In-Ok}
 
 found : (c : In-Ok) → line_of c.args.self.now.shape c.args.axis c.args.m ≡ passes c.in-Ok.line
 found c = value-passed _ _ _ c.axis_line.ensures c.in-Ok.is

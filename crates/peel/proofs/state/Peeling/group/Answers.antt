@@ -1,6 +1,6 @@
 -- `Peeling::group` marks a group quiet and visits those of its lines that were awake.
 use Rattle.peel.proofs.Visiting.{group-calm, group-filled}
-use Rattle.peel.proofs.sweep.Peeling.group.Goals as goal
+use Rattle.peel.proofs.state.Peeling.group.Goals as goal
 
 pub returns-clause-filled : goal.returns-clause-filled
 returns-clause-filled c =
