@@ -1,23 +1,23 @@
--- A line of the cube as a run of byte lines, one a layer, and whether it is right; and what holds of all lines of an axis, line after line.
+-- A line of the cube as a run of byte lines, one a layer, and whether it is right; and the lines of an axis, by their numbers.
 use mathlib.Core.Path.{◌≡◌, sym, ap, subst, ◌∙◌}
 use mathlib.Core.Bool.{Bool, true, false}
 use mathlib.Core.List.{List}
 use mathlib.Core.Logic.{◌≢◌}
-use Prim.Native.Nat.{ℕ, ◌+◌, ◌*◌, ◌≤◌, ◌<◌}
+use Prim.Native.Nat.{ℕ, ◌+◌, ◌*◌, ◌<◌}
 use native.Mathlib.Nat.{one-mul}
-use native.Mathlib.Decide.{ℕ_discrete}
 use native.Mathlib.Omega.{arith}
 use lib.ListN.{length, get_or}
-use Rattle.answer.specs.Values.{passes}
-use Rattle.answer.proofs.Values.{passes-injective}
+use Rattle.answer.specs.declared.Refusal.{Refusal}
+use Rattle.answer.specs.Values.{passes, checked, refusal}
+use Rattle.answer.proofs.Values.{passes-injective, refusal-gives}
 use Rattle.span.specs.Decision.{Decides}
 use Rattle.span.proofs.Decision.{decides-yes, decides-no, decides-map}
 use Rattle.shape.specs.declared.Shape.{Shape}
 use Rattle.shape.specs.declared.Line.{Line}
-use Rattle.shape.specs.Shapes.{Valid, AxisLine, IsLine, along, lines_of, line_of}
+use Rattle.shape.specs.Shapes.{Valid, IsLine, along, lines_of, line_of}
 use Rattle.shape.specs.Flags.{missing, none_missing}
 use Rattle.shape.proofs.Missing.{none-missing}
-use Rattle.shape.proofs.Geometry.{axis-cases, axis-line-every, all-axes, line-stride-pos}
+use Rattle.shape.proofs.Geometry.{axis-cases, axis-line-every, axis-line-found, all-axes, line-stride-pos}
 use Rattle.data.specs.Data.{layer}
 use Rattle.cube.specs.Cube.{layer_line, CodeCube}
 use Rattle.line.specs.declared.Run.{Run}
@@ -28,7 +28,7 @@ use Rattle.stopping.proofs.Stopping.{on_line-none}
 use Rattle.peel.specs.Peel.{Sized}
 use Rattle.peel.specs.Inner.OnLine.{Neighbours, run_of}
 use Rattle.peel.proofs.Lines.{run-place, lines-inside}
-use Rattle.fill.specs.Inner.Verify.{Right, AxisRight, AllRight}
+use Rattle.fill.specs.Inner.Verify.{Right, LineRight, AxisRight, AllRight}
 
 -- ---- layers
 
@@ -74,27 +74,31 @@ module _ (sh : Shape) (xs fs : List ℕ) (z : Sized sh xs fs) (first stride len 
         lines = λ t m. codeword-cong r _ _ len (λ i q. sym (run-layer sh xs first stride len t i)) (h none t m);
       }) o
 
--- ---- what holds of every line of an axis, line after line
+-- ---- the lines of an axis, by their numbers
 
-module _ (sh : Shape) (axis : ℕ) (P : ℕ → ℕ → ℕ → Type 0) where
-  -- P holds of the first m lines
-  abbrev pub Below : ℕ → Type 0
-  Below m = (k : ℕ) → k < m → (l : Line) → line_of sh axis k ≡ passes l → P l.first l.stride l.len
+module _ (r : ℕ) (sh : Shape) (xs fs : List ℕ) (axis : ℕ) where
+  -- a line that a call finds is the one with its number
+  pub line-decided : (m : ℕ) (l : Line) → line_of sh axis m ≡ passes l → (b : Bool) → Decides (Right r sh xs fs l.first l.stride l.len) b
+      → Decides (LineRight r sh xs fs axis m) b
+  unfolding LineRight
+  line-decided m l e b d =
+      decides-map
+      (λ h x f. subst (λ (y : Line). Right r sh xs fs y.first y.stride y.len) (passes-injective l x (sym e ∙ f)) h)
+      (λ h. h l e) d
 
-  pub below_none : Below 0
-  below_none k h = absurd (omega arith)
+  -- where there is none, there is none to be right
+  pub line-none : (m : ℕ) (f : Refusal) → refusal {A = Line} f ≡ checked (line_of sh axis m) → Decides (LineRight r sh xs fs axis m) true
+  unfolding LineRight checked
+  line-none m f e = decides-yes (λ l found. absurd (refusal-gives f l (e ∙ ap checked found)))
 
-  pub below_next : (m : ℕ) (l : Line) → Below m → line_of sh axis m ≡ passes l → P l.first l.stride l.len → Below (m + 1)
-  below_next m l h e p k b x f =
-      elim (ℕ_discrete k m) [
-        | yes g ↦ rw (passes-injective _ _ (sym f ∙ ap (line_of sh axis) g ∙ e)) p
-        | no ne ↦ h k (omega arith) x f
-      ]
-
-  pub below_all : (m : ℕ) → Valid sh → lines_of sh axis ≤ m → Below m
-      → (first stride len : ℕ) → AxisLine sh axis first stride len → P first stride len
-  below_all m v le h first stride len l =
-      let (k, low, high, b, found) = axis-line-every sh axis first stride len v l in h k (omega arith) _ found
+  -- the lines of the numbers that the axis has are its lines
+  pub axis-decided : Valid sh → (b : Bool) → Decides ((m : ℕ) → m < lines_of sh axis → LineRight r sh xs fs axis m) b
+      → Decides (AxisRight r sh xs fs axis) b
+  unfolding LineRight AxisRight
+  axis-decided v b d =
+      decides-map
+      (λ h first stride len l. let (m, _, _, less, found) = axis-line-every sh axis first stride len v l in h m less _ found)
+      (λ h m less l found. h _ _ _ (axis-line-found sh axis m l found)) d
 
 module _ (r : ℕ) (sh : Shape) (xs fs : List ℕ) where
   pub axis-right : (axis : ℕ) → AllRight r sh xs fs → AxisRight r sh xs fs axis

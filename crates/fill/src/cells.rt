@@ -1,4 +1,4 @@
-// Flags and cells. Within a call a cell that was filled has the private flag 3, above every flag of a caller.
+// Flags and cells. Within a call a cell that was filled has the flag MARKED, above every flag of a caller.
 ghost use Rattle.std.specs.Prelude.{◌≡◌, length};
 ghost use Rattle.stopping.specs.Stopping.{number};
 ghost use Rattle.shape.specs.Flags.{missing};
@@ -7,6 +7,7 @@ ghost use Rattle.fill.specs.Fill.{Cleared};
 ghost use Rattle.shape.specs.Inner.Marks.{Remarked};
 
 use shape::Shape;
+use shape::flags::{KNOWN, MARKED, MISSING};
 
 // Clears every missing cell: right for each outcome that is left.
 pub(crate) fn clear_missing(cube: &mut [u8], flags: &[u8], sh: Shape)
@@ -15,7 +16,7 @@ pub(crate) fn clear_missing(cube: &mut [u8], flags: &[u8], sh: Shape)
 {
     let w = sh.w;
     for (n, flag) in flags.iter().enumerate() {
-        if *flag == 1 {
+        if *flag == MISSING {
             span::set(cube, n * w, w, 0);
         }
     }
@@ -26,8 +27,8 @@ pub(crate) fn settle(flags: &mut [u8]) -> usize
     ensures remarked { Remarked 0 flags.old flags.new }
     ensures value { result ≡ number (missing flags.new) (length flags.old) }
 {
-    remark(flags, 0);
-    flags.iter().filter(|flag| **flag == 1).count()
+    remark(flags, KNOWN);
+    flags.iter().filter(|flag| **flag == MISSING).count()
 }
 
 // After a contradiction: filled cells are missing again, and every missing cell is cleared.
@@ -36,7 +37,7 @@ pub(crate) fn restore(cube: &mut [u8], flags: &mut [u8], sh: Shape)
     ensures cleared { Cleared sh cube.old (missing flags.new) cube.new }
     ensures remarked { Remarked 1 flags.old flags.new }
 {
-    remark(flags, 1);
+    remark(flags, MISSING);
     clear_missing(cube, flags, sh);
 }
 
@@ -45,7 +46,7 @@ fn remark(flags: &mut [u8], v: u8)
     ensures { Remarked v flags.old flags.new }
 {
     for flag in flags.iter_mut() {
-        if *flag == 3 {
+        if *flag == MARKED {
             *flag = v;
         }
     }

@@ -1,20 +1,20 @@
 // The last check: every line without a missing cell must be a codeword in every layer. With no cell missing it is the only one.
-ghost use Rattle.std.specs.Prelude.{◌≡◌, ◌*◌, ◌≤◌, length};
-ghost use Rattle.shape.specs.Shapes.{Valid, cells, IsLine};
+ghost use Rattle.shape.specs.Shapes.{IsAxis};
+ghost use Rattle.data.specs.Data.{IsCube};
 ghost use Rattle.cube.specs.Cube.{CodeCube};
 ghost use Rattle.field.specs.Field.{reduction};
 ghost use Rattle.span.specs.Decision.{Decides};
 ghost use Rattle.fill.specs.Fill.{fill_value};
 ghost use Rattle.peel.specs.Peel.{Sized};
-ghost use Rattle.fill.specs.Inner.Verify.{Right, AxisRight, AllRight, WholeChecked};
+ghost use Rattle.fill.specs.Inner.Verify.{LineRight, AxisRight, AllRight, WholeChecked};
 
 use answer::{Fault, Refusal};
 use line::Run;
-use shape::{Line, Shape};
+use shape::Shape;
 
 // With no cell missing a filling is a check of the cube.
 pub(crate) fn whole(cube: &[u8], sh: Shape) -> Result<usize, Refusal>
-    requires { Valid sh × (length cube.now ≡ sh.w * cells sh) }
+    requires { IsCube sh cube.now }
     ensures { WholeChecked reduction sh cube.now (fill_value result) }
 {
     if is_code(cube, sh) {
@@ -38,7 +38,7 @@ pub(crate) fn verify(cube: &[u8], flags: &[u8], sh: Shape) -> bool
 
 // Whether a cube of this shape is a code cube: such a cube is not refused.
 fn is_code(cube: &[u8], sh: Shape) -> bool
-    requires { Valid sh × (length cube.now ≡ sh.w * cells sh) }
+    requires { IsCube sh cube.now }
     ensures { Decides (CodeCube reduction sh cube.now) result }
 {
     cube::is_code_cube(cube, sh).unwrap_or(false)
@@ -53,28 +53,24 @@ fn verify_lines(cube: &[u8], flags: &[u8], sh: Shape) -> bool
         && verify_axis(cube, flags, sh, 3)
 }
 
-// An axis has at most 255 * 255 lines; a call of `axis_line` past its last one is refused.
 fn verify_axis(cube: &[u8], flags: &[u8], sh: Shape, axis: usize) -> bool
     requires sized { Sized sh cube.now flags.now }
-    requires le_axis { (1 ≤ axis) × (axis ≤ 3) }
+    requires le_axis { IsAxis axis }
     ensures { Decides (AxisRight reduction sh cube.now flags.now axis) result }
 {
-    for m in 0..65025 {
-        let Ok(line) = shape::axis_line(sh, axis, m) else {
-            return true;
-        };
-        if !verify_line(cube, flags, sh, line) {
-            return false;
-        }
-    }
-    true
+    let lines = shape::axis_of(sh, axis).map_or(0, |a| a.lines);
+    (0..lines).all(|m| verify_line(cube, flags, sh, axis, m))
 }
 
-fn verify_line(cube: &[u8], flags: &[u8], sh: Shape, line: Line) -> bool
-    requires sized { Sized sh cube.now flags.now }
-    requires line { IsLine sh line.first line.stride line.len }
-    ensures { Decides (Right reduction sh cube.now flags.now line.first line.stride line.len) result }
+// Line m of an axis, if there is one. Its run is written out here, as in `cube`, `peel` and `mend`, each in its own width: a function of all four would
+// be public, ask nothing of its caller, and test each product.
+fn verify_line(cube: &[u8], flags: &[u8], sh: Shape, axis: usize, m: usize) -> bool
+    requires { Sized sh cube.now flags.now }
+    ensures { Decides (LineRight reduction sh cube.now flags.now axis m) result }
 {
+    let Ok(line) = shape::axis_line(sh, axis, m) else {
+        return true;
+    };
     let e = erasures::scan_line(flags, line);
     if e.count != 0 {
         return true;

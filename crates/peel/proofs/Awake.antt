@@ -1,14 +1,12 @@
 -- Which lines may have changed: the marks of the groups of eight lines. What holds of a line that is quiet goes on holding while no cell on it is
 -- filled, for a filled cell wakes its three lines.
 use mathlib.Core.Path.{◌≡◌, refl, sym, ap, subst, ◌∙◌}
-use mathlib.Core.Bool.{Bool, true, false, cond}
 use mathlib.Core.List.{List}
 use mathlib.Core.Logic.{◌≢◌, ◌⊎◌, inl, inr, ⊎_elim}
 use Prim.Native.Nat.{ℕ, zero, suc, ◌+◌, ◌-◌, ◌*◌, ◌%◌, ◌≤◌, ◌<◌, ◌/◌}
 use native.Mathlib.Nat.{mul-one, one-mul, add-zero, zero-add, mod-one, div-eq_of_lt, zero-mul}
 use native.Mathlib.Decide.{ℕ_discrete, dec_lt}
 use native.Mathlib.Omega.{arith}
-use lib.Dec.{leb}
 use lib.ListN.{get_or, length, set, replicate, length-replicate, length-set}
 use Rattle.shape.specs.declared.Shape.{Shape}
 use Rattle.shape.specs.Shapes.{Valid, cells, stride_of, length_of, lines_of, first_of}
@@ -19,8 +17,8 @@ use Rattle.shape.specs.Flags.{missing}
 use Rattle.peel.specs.Peel.{Stops}
 use Rattle.peel.specs.Inner.Wake.{mark_at, QuietIn, stretched, Quiet, Awake, Woken, AllQuiet}
 use Rattle.peel.specs.Inner.Sweep.{LineStops, Calm, Keeps}
+use Rattle.std.specs.Prelude.{Option, None, Some, MatchOption}
 use lib.Seq.{get_or-set_same, get_or-set_other}
-use Rattle.shape.proofs.Valid.{area-le}
 use Rattle.shape.proofs.Missing.{missing-cong}
 
 -- ---- at first every line is awake
@@ -96,7 +94,6 @@ module _ (sh : Shape) (n : ℕ) (v : Valid sh) (l : n < cells sh) where
   line-below axis = omega (arith, lines-few sh axis v, (line-through sh axis n v l).line_lt)
 
   mark-below : (axis : ℕ) → 1 ≤ axis → axis ≤ 3 → mark-through sh n axis < 24576
-  unfolding mark_at
   mark-below axis p q = omega (arith, line-below axis)
 
   -- the lines by the cell's number
@@ -139,7 +136,6 @@ module _ (sh : Shape) (n : ℕ) (v : Valid sh) (l : n < cells sh) where
 
   -- by the line's number among those of all axes
   numbered : (axis j : ℕ) (ms : List ℕ) → 1 ≤ axis → j ≡ (axis - 1) * 65536 + line_on sh axis n → set ms (j / 8) (stretched (get_or ms (j / 8) 0) (j % 8)) ≡ through-woken sh n axis ms
-  unfolding mark_at
   numbered axis j ms p e = rw (at_mark, in_group)
     where
       at_mark : j / 8 ≡ (axis - 1) * 8192 + line_on sh axis n / 8
@@ -180,7 +176,6 @@ quiet_none = record { each = λ h low high. absurd (omega arith) }
 -- n groups more
 pub quiet-more : {ms : List ℕ} {axis from g : ℕ} (n : ℕ) → AllQuiet ms axis from g → ((i : ℕ) → i < n → get_or ms ((axis - 1) * 8192 + g + i) 0 ≡ 71)
     → AllQuiet ms axis from (g + n)
-unfolding mark_at
 quiet-more {ms} {axis} {from} {g} n a e =
     record {
       each = λ h low high.
@@ -192,9 +187,18 @@ quiet-more {ms} {axis} {from} {g} n a e =
           ];
     }
 
-pub quiet_next : {ms : List ℕ} {axis from g : ℕ} → AllQuiet ms axis from g → get_or ms ((axis - 1) * 8192 + g) 0 ≡ 71 → AllQuiet ms axis from (g + 1)
-quiet_next {ms} {axis} {from} {g} a e =
-    quiet-more 1 a
-    (λ i l.
-    let same : (axis - 1) * 8192 + g ≡ (axis - 1) * 8192 + g + i = omega arith in
-    subst (λ (p : ℕ). get_or ms p 0 ≡ 71) same e)
+-- behind groups that are quiet, the first that is not, or none
+pub awake-found : {ms : List ℕ} {axis from mid end : ℕ} (r : Option ℕ) → from ≤ mid → mid ≤ end → AllQuiet ms axis from mid
+    → MatchOption r ((g : ℕ) → mid ≤ g → g < end → get_or ms (mark_at axis g) 0 ≡ 71)
+    (λ g. (mid ≤ g) × (g < end) × (get_or ms (mark_at axis g) 0 ≢ 71) × ((h : ℕ) → mid ≤ h → h < g → get_or ms (mark_at axis h) 0 ≡ 71))
+    → MatchOption r (AllQuiet ms axis from end) (λ g. (from ≤ g) × (g < end) × AllQuiet ms axis from g)
+awake-found {ms} {axis} {from} {mid} {end} r low high a = by r
+  where
+    up : (k : ℕ) → ((g : ℕ) → mid ≤ g → g < k → get_or ms (mark_at axis g) 0 ≡ 71) → AllQuiet ms axis from k
+    up k q = record { each = λ g l less. elim (dec_lt g mid) [ yes before ↦ a.each g l before | no past ↦ q g (omega arith) less ] }
+
+    by : (r : Option ℕ) → MatchOption r ((g : ℕ) → mid ≤ g → g < end → get_or ms (mark_at axis g) 0 ≡ 71)
+        (λ g. (mid ≤ g) × (g < end) × (get_or ms (mark_at axis g) 0 ≢ 71) × ((h : ℕ) → mid ≤ h → h < g → get_or ms (mark_at axis h) 0 ≡ 71))
+        → MatchOption r (AllQuiet ms axis from end) (λ g. (from ≤ g) × (g < end) × AllQuiet ms axis from g)
+    by None q = up end q
+    by (Some g) (l, less, _, q) = (omega arith, less, up g q)

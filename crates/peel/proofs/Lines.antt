@@ -1,5 +1,5 @@
 -- Lines side by side: as a run of byte lines, one a layer, which lies inside the cube; and those that miss the same places.
-use mathlib.Core.Path.{◌≡◌, sym, ap, subst}
+use mathlib.Core.Path.{◌≡◌, ap, subst}
 use mathlib.Core.Bool.{Bool}
 use mathlib.Core.List.{List}
 use Prim.Native.Nat.{ℕ, ◌+◌, ◌-◌, ◌*◌, ◌≤◌, ◌<◌}
@@ -14,6 +14,8 @@ use Rattle.shape.proofs.Geometry.{line-cell-lt, line-length-low, line-length-hig
 use Rattle.cube.specs.Cube.{layer_line}
 use Rattle.cube.proofs.AxisRuns.{run_from, line_at-run}
 use Rattle.line.specs.Run.{line_at, Inside}
+use Rattle.std.specs.Prelude.{Option, None, Some, MatchOption}
+use Rattle.std.specs.Option.{unwrap_or}
 use Rattle.erasures.specs.Erasures.{Scanned}
 use Rattle.peel.specs.Inner.OnLine.{Neighbours, Alike, run_of}
 
@@ -76,23 +78,27 @@ module _ (sh : Shape) (xs : List ℕ) (v : Valid sh) (bytes : length xs ≡ sh.w
 -- ---- neighbouring lines that miss the same places
 
 module _ {M : ℕ → Bool} {first stride len count j k : ℕ} where
-  pub alike-one : 1 ≤ count → count ≤ 2 → Scanned M first stride len count j k → Alike M first stride len 1 count j k
-  alike-one some few s =
-      record {
-        some = some;
-        few = few;
-        each = λ q l. let e : first ≡ first + q = omega arith in subst (λ (f : ℕ). Scanned M f stride len count j k) e s;
-      }
+  -- as many lines as the first that is unlike lies behind this one, or all
+  pub alike-found : {most : ℕ} (r : Option ℕ) → 1 ≤ most → 1 ≤ count → count ≤ 2 → Scanned M first stride len count j k
+      → MatchOption r ((n : ℕ) → 1 ≤ n → n < most → Scanned M (first + n) stride len count j k)
+      (λ n. (1 ≤ n) × (n < most) × (n ≤ n) × ((q : ℕ) → 1 ≤ q → q < n → Scanned M (first + q) stride len count j k))
+      → (1 ≤ unwrap_or r most) × (unwrap_or r most ≤ most) × Alike M first stride len (unwrap_or r most) count j k
+  alike-found {most} r some one few here = by r
+    where
+      up : (n : ℕ) → ((q : ℕ) → 1 ≤ q → q < n → Scanned M (first + q) stride len count j k) → Alike M first stride len n count j k
+      up n more =
+          record {
+            some = one;
+            few = few;
+            each = λ q l.
+                elim (ℕ_discrete q 0) [
+                  | yes e ↦ let same : first + q ≡ first = omega arith in rw same here
+                  | no ne ↦ more q (omega arith) l
+                ];
+          }
 
-  pub alike-more : {n c a b : ℕ} → Alike M first stride len n count j k → Scanned M (first + n) stride len c a b → c ≡ count → a ≡ j → b ≡ k
-      → Alike M first stride len (n + 1) count j k
-  alike-more {n} h s ec ea eb =
-      record {
-        some = h.some;
-        few = h.few;
-        each = λ q l.
-            elim (ℕ_discrete q n) [
-              | yes e ↦ subst (λ (x : ℕ). Scanned M (first + x) stride len count j k) (sym e) (rw (ec, ea, eb) at s)
-              | no ne ↦ h.each q (omega arith)
-            ];
-      }
+      by : (r : Option ℕ) → MatchOption r ((n : ℕ) → 1 ≤ n → n < most → Scanned M (first + n) stride len count j k)
+          (λ n. (1 ≤ n) × (n < most) × (n ≤ n) × ((q : ℕ) → 1 ≤ q → q < n → Scanned M (first + q) stride len count j k))
+          → (1 ≤ unwrap_or r most) × (unwrap_or r most ≤ most) × Alike M first stride len (unwrap_or r most) count j k
+      by None all = (some, omega arith, up most all)
+      by (Some n) (low, less, _, all) = (low, omega arith, up n all)

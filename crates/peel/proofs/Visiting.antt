@@ -255,7 +255,6 @@ module _ {r : ℕ} {sh : Shape} {axis : ℕ} where
 
 -- the lines that share a mark
 mark-same : (a axis m g : ℕ) → 1 ≤ a → 1 ≤ axis → m < 65536 → g < 8192 → mark_at a (m / 8) ≡ mark_at axis g → (a ≡ axis) × (g * 8 ≤ m) × (m < g * 8 + 8)
-unfolding mark_at
 mark-same a axis m g p q l b e = (omega arith, omega arith, omega arith)
 
 -- a line of a group is awake by the group's mark, or it stops

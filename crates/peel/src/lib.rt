@@ -2,6 +2,7 @@
 #![tactic(auto)]
 
 mod on_line;
+mod state;
 mod sweep;
 mod wake;
 
@@ -10,10 +11,10 @@ ghost use Rattle.span.specs.Decision.{Decides};
 ghost use Rattle.peel.specs.Peel.{Sized, PeelOutcome};
 
 use shape::Shape;
-use sweep::Peeling;
+use state::Peeling;
 
 // Peels a cube whose flags are 1 at the missing cells: a cell that is filled gets flag 3. Where cube and flags have not the lengths of a valid
-// shape, changes nothing and says so.
+// shape, changes nothing and says so. It says it by a bool: there is this one way to fail, it has no number, and who checked before passes over it.
 pub fn peel(cube: &mut [u8], flags: &mut [u8], sh: Shape) -> bool
     ensures { PeelOutcome reduction sh cube.old flags.old cube.new flags.new result }
 {
@@ -34,8 +35,5 @@ pub fn peel(cube: &mut [u8], flags: &mut [u8], sh: Shape) -> bool
 fn fits(cube: &[u8], flags: &[u8], sh: Shape) -> bool
     ensures { Decides (Sized sh cube.now flags.now) result }
 {
-    match shape::measure(sh) {
-        Err(_) => false,
-        Ok(z) => cube.len() == z.bytes && flags.len() == z.cells,
-    }
+    shape::measure(sh).is_ok_and(|z| cube.len() == z.bytes && flags.len() == z.cells)
 }

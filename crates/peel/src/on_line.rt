@@ -1,7 +1,8 @@
 // Lines: filling the missing cells of a line where they are one or two, for neighbouring lines that miss the same places at once.
-ghost use Rattle.std.specs.Prelude.{◌≡◌, ℕ, ◌+◌, ◌*◌, ◌≤◌, ◌<◌, length, set};
+ghost use Rattle.std.specs.Prelude.{◌≡◌, true, ℕ, ◌+◌, ◌*◌, ◌≤◌, ◌<◌, length, set};
 ghost use Rattle.shape.specs.Shapes.{Valid, cells};
 ghost use Rattle.shape.specs.Flags.{missing};
+ghost use Rattle.data.specs.Data.{IsCube};
 ghost use Rattle.field.specs.Field.{reduction};
 ghost use Rattle.line.proofs.Runs.{Solved};
 ghost use Rattle.erasures.specs.Erasures.{Places, Scanned};
@@ -12,6 +13,7 @@ ghost use Rattle.peel.specs.Inner.OnLine.{Neighbours, Alike, Flagged, LinesVisit
 use crate::wake;
 use erasures::MissingPlaces;
 use line::Run;
+use shape::flags::MARKED;
 use shape::{Line, Shape};
 
 // How many neighbouring lines were visited, and how many cells filled on them.
@@ -59,22 +61,27 @@ fn alike(flags: &[u8], line: Line, e: MissingPlaces, most: usize) -> usize
     requires scanned { Scanned (missing flags.now) line.first line.stride line.len e.count e.first e.last }
     ensures { (1 ≤ result) × (result ≤ most) × Alike (missing flags.now) line.first line.stride line.len result e.count e.first e.last }
 {
-    for n in 1..most {
-        let next = Line {
-            first: line.first + n,
-            ..line
-        };
-        let s = erasures::scan_line(flags, next);
-        if s.count != e.count || s.first != e.first || s.last != e.last {
-            return n;
-        }
-    }
-    most
+    (1..most)
+        .find(|n| !same_places(flags, line, e, *n))
+        .unwrap_or(most)
 }
 
-// Writes the missing cells of n neighbouring lines.
+// Whether the line n lines further misses the same places.
+fn same_places(flags: &[u8], line: Line, e: MissingPlaces, n: usize) -> bool
+    requires { Places flags.now (line.first + n) line.stride line.len }
+    ensures { result ≡ true → Scanned (missing flags.now) (line.first + n) line.stride line.len e.count e.first e.last }
+{
+    let next = Line {
+        first: line.first + n,
+        ..line
+    };
+    erasures::scan_line(flags, next) == e
+}
+
+// Writes the missing cells of n neighbouring lines. Their run is written out here, as in `cube`, `fill` and `mend`, each in its own width: a function of
+// all four would be public, ask nothing of its caller, and test each product.
 fn recover(cube: &mut [u8], sh: Shape, line: Line, e: MissingPlaces, n: usize)
-    requires valid { Valid sh × (length cube.old ≡ sh.w * cells sh) }
+    requires is_cube { IsCube sh cube.old }
     requires neighbours { Neighbours sh line.first line.stride line.len n }
     requires first_le_last { (e.first ≤ e.last) × (e.last < line.len) }
     ensures { Solved reduction (run_of sh line.first line.stride line.len n) e.first e.last cube.old cube.new }
@@ -117,6 +124,6 @@ fn flag_hole(flags: &mut [u8], marks: &mut [u8; 24576], sh: Shape, n: usize)
     ensures flags_after { flags.new ≡ set flags.old n 3 }
     ensures woken { Woken sh n marks.old marks.new }
 {
-    flags[n] = 3;
+    flags[n] = MARKED;
     wake::wake(marks, sh, n);
 }

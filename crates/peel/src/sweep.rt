@@ -1,29 +1,19 @@
 // Sweeps over axis 1, 2, 3 and again, until three axes in succession fill nothing. A sweep passes over the lines that nothing has
 // changed on since their last visit: a line that was left then is left now.
-ghost use Rattle.std.specs.Prelude.{◌≡◌, ◌+◌, ◌*◌, ◌%◌, ◌≤◌, ◌<◌};
+ghost use Rattle.std.specs.Prelude.{◌+◌, ◌*◌, ◌%◌, ◌≤◌, ◌<◌};
+ghost use Rattle.shape.specs.Shapes.{IsAxis};
 ghost use Rattle.field.specs.Field.{reduction};
-ghost use Rattle.peel.specs.Peel.{Sized, Peeled};
-ghost use Rattle.peel.specs.Inner.Sweep.{AxisStops, LinesStop, Filled, Calm, Visited};
+ghost use Rattle.peel.specs.Peel.{Peeled};
+ghost use Rattle.peel.specs.Inner.Sweep.{Lends, AxisStops, LinesStop, Filled, Calm, Visited};
 
 use crate::on_line::Progress;
+use crate::state::Peeling;
 use crate::{on_line, wake};
-use shape::Shape;
-
-// A cube that is being peeled, its flags, and the marks of its lines. A method leaves the slices and the shape what they are.
-#[derive(Drop)]
-pub(crate) struct Peeling<'a> {
-    pub(crate) cube: &'a mut [u8],
-    pub(crate) flags: &'a mut [u8],
-    pub(crate) marks: [u8; 24576],
-    pub(crate) shape: Shape,
-    ghost sized: { Sized shape cube.now flags.now },
-}
 
 impl<'a> Peeling<'a> {
     pub(crate) fn sweeps(&mut self)
         requires { Calm self.old.shape self.old.flags.now self.old.marks }
-        ensures cube_is { self.new.cube.ghost_name ≡ self.old.cube.ghost_name }
-        ensures flags_is { self.new.flags.ghost_name ≡ self.old.flags.ghost_name }
+        ensures lends { Lends self.old self.new }
         ensures peeled { Peeled reduction self.old.shape self.old.cube.now self.old.flags.now self.new.cube.now self.new.flags.now }
     {
         let mut axis = 1;
@@ -39,10 +29,8 @@ impl<'a> Peeling<'a> {
     // One sweep: each line of an axis that is not quiet, by the cell number of its first cell; answers how many cells it filled.
     fn sweep(&mut self, axis: usize) -> usize
         requires calm { Calm self.old.shape self.old.flags.now self.old.marks }
-        requires le_axis { (1 ≤ axis) × (axis ≤ 3) }
-        ensures cube_is { self.new.cube.ghost_name ≡ self.old.cube.ghost_name }
-        ensures flags_is { self.new.flags.ghost_name ≡ self.old.flags.ghost_name }
-        ensures shape_is { self.new.shape ≡ self.old.shape }
+        requires le_axis { IsAxis axis }
+        ensures lends { Lends self.old self.new }
         ensures filled { Filled reduction self.old.shape (λ fs. AxisStops self.old.shape fs axis) self.old.cube.now self.old.flags.now self.new.cube.now self.new.flags.now result }
         ensures calm_2 { Calm self.old.shape self.new.flags.now self.new.marks }
     {
@@ -59,14 +47,12 @@ impl<'a> Peeling<'a> {
     // A group is marked quiet before its awake lines are visited: a cell filled on one of them wakes it again.
     fn group(&mut self, axis: usize, g: usize) -> usize
         requires calm { Calm self.old.shape self.old.flags.now self.old.marks }
-        requires le_axis { (1 ≤ axis) × (axis ≤ 3) × (g < 8192) }
-        ensures cube_is { self.new.cube.ghost_name ≡ self.old.cube.ghost_name }
-        ensures flags_is { self.new.flags.ghost_name ≡ self.old.flags.ghost_name }
-        ensures shape_is { self.new.shape ≡ self.old.shape }
+        requires le_axis { IsAxis axis × (g < 8192) }
+        ensures lends { Lends self.old self.new }
         ensures filled { Filled reduction self.old.shape (LinesStop self.old.shape axis (g * 8) (g * 8 + 8)) self.old.cube.now self.old.flags.now self.new.cube.now self.new.flags.now result }
         ensures calm_2 { Calm self.old.shape self.new.flags.now self.new.marks }
     {
-        let at = (axis - 1) * 8192 + g;
+        let at = wake::mark_at(axis, g);
         let mark = usize::from(self.marks[at]);
         self.marks[at] = wake::QUIET;
         let from = g * 8 + mark / 8;
@@ -76,10 +62,8 @@ impl<'a> Peeling<'a> {
 
     // Visits the lines of an axis from one on and below another, as far as the axis has them.
     fn visit_lines(&mut self, axis: usize, from: usize, end: usize) -> usize
-        requires { (1 ≤ axis) × (axis ≤ 3) × (end ≤ 65544) }
-        ensures cube_is { self.new.cube.ghost_name ≡ self.old.cube.ghost_name }
-        ensures flags_is { self.new.flags.ghost_name ≡ self.old.flags.ghost_name }
-        ensures shape_is { self.new.shape ≡ self.old.shape }
+        requires { IsAxis axis × (end ≤ 65544) }
+        ensures lends { Lends self.old self.new }
         ensures visited { Visited reduction self.old.shape axis from end self.old.cube.now self.old.flags.now self.old.marks self.new.cube.now self.new.flags.now self.new.marks result }
     {
         let mut filled = 0;
@@ -95,11 +79,9 @@ impl<'a> Peeling<'a> {
 
     // Visits line m of an axis, if there is one, and perhaps lines after it, all below `end`.
     fn visit(&mut self, axis: usize, m: usize, end: usize) -> Progress
-        requires { (1 ≤ axis) × (axis ≤ 3) × (m < end) }
+        requires { IsAxis axis × (m < end) }
         ensures le_lines { (1 ≤ result.lines) × (m + result.lines ≤ end) }
-        ensures cube_is { self.new.cube.ghost_name ≡ self.old.cube.ghost_name }
-        ensures flags_is { self.new.flags.ghost_name ≡ self.old.flags.ghost_name }
-        ensures shape_is { self.new.shape ≡ self.old.shape }
+        ensures lends { Lends self.old self.new }
         ensures visited { Visited reduction self.old.shape axis m (m + result.lines) self.old.cube.now self.old.flags.now self.old.marks self.new.cube.now self.new.flags.now self.new.marks result.filled }
     {
         let Ok(line) = shape::axis_line(self.shape, axis, m) else {

@@ -1,8 +1,8 @@
 // The marks of peeling: a byte for each group of eight lines of an axis, which says which of them are awake, that is which may have changed since
 // their last visit: a stretch of the group, from one line to another. An axis has at most 65,025 lines, so that 8,192 marks an axis are enough.
 ghost use Rattle.std.specs.Prelude.{◌≡◌, true, ℕ, ◌+◌, ◌*◌, ◌/◌, ◌%◌, ◌≤◌, ◌<◌, get_or, set, MatchOption};
-ghost use Rattle.shape.specs.Shapes.{Valid, cells, lines_of};
-ghost use Rattle.peel.specs.Inner.Wake.{stretched, Woken, AllQuiet};
+ghost use Rattle.shape.specs.Shapes.{Valid, IsAxis, cells, lines_of};
+ghost use Rattle.peel.specs.Inner.Wake.{mark_at, stretched, Woken, AllQuiet};
 
 use shape::Shape;
 
@@ -11,15 +11,18 @@ pub(crate) const QUIET: u8 = 71;
 
 // How many groups of eight lines an axis has, the last one perhaps shorter.
 pub(crate) fn groups(sh: Shape, axis: usize) -> usize
-    requires { Valid sh × (1 ≤ axis) × (axis ≤ 3) }
+    requires { Valid sh × IsAxis axis }
     ensures { (lines_of sh axis ≤ result * 8) × (result ≤ 8192) }
 {
-    let lines = match axis {
-        1 => sh.l2 * sh.l3,
-        2 => sh.l1 * sh.l3,
-        _ => sh.l1 * sh.l2,
-    };
-    lines.div_ceil(8)
+    shape::axis_of(sh, axis).map_or(0, |a| a.lines.div_ceil(8))
+}
+
+// Where the mark of a group stands: the axes have their marks one behind the other.
+pub(crate) fn mark_at(axis: usize, g: usize) -> usize
+    requires { IsAxis axis × (g < 8192) }
+    ensures { result ≡ mark_at axis g }
+{
+    (axis - 1) * 8192 + g
 }
 
 // The first group from `from` on that is not quiet, below `groups`.
@@ -29,26 +32,19 @@ pub(crate) fn next_awake(
     from: usize,
     groups: usize,
 ) -> Option<usize>
-    requires { (1 ≤ axis) × (axis ≤ 3) × (from ≤ groups) × (groups ≤ 8192) }
+    requires { IsAxis axis × (from ≤ groups) × (groups ≤ 8192) }
     ensures { MatchOption result (AllQuiet marks.now axis from groups) (λ g. (from ≤ g) × (g < groups) × AllQuiet marks.now axis from g) }
 {
-    let base = (axis - 1) * 8192;
-    for g in past_quiet(marks, axis, from, groups)..groups {
-        if marks[base + g] != QUIET {
-            return Some(g);
-        }
-    }
-    None
+    (past_quiet(marks, axis, from, groups)..groups).find(|g| marks[mark_at(axis, *g)] != QUIET)
 }
 
 // Where to look on from `from`: 32 groups at a time are passed over, since in a sweep that fills little nearly all are quiet.
 fn past_quiet(marks: &[u8; 24576], axis: usize, from: usize, groups: usize) -> usize
-    requires { (1 ≤ axis) × (axis ≤ 3) × (from ≤ groups) × (groups ≤ 8192) }
+    requires { IsAxis axis × (from ≤ groups) × (groups ≤ 8192) }
     ensures { (from ≤ result) × (result ≤ groups) × AllQuiet marks.now axis from result }
 {
-    let base = (axis - 1) * 8192;
     for g in (from..groups).step_by(32) {
-        if groups < g + 32 || !all_quiet(marks, base + g) {
+        if groups < g + 32 || !all_quiet(marks, mark_at(axis, g)) {
             return g;
         }
     }

@@ -17,7 +17,7 @@ pub returns-in_err-check : goal.returns-in_err-check
 returns-in_err-check c = fill-unfit _ _ _ _ _ _ _ c.check.ensures c.in_err-check.was c.from_residual.ensures.1
 
 pub whole-requires : goal.whole-requires
-whole-requires c = let sized = done-sized _ _ _ (done (goal.at.whole-requires c).In_ok-check) in (sized.valid, sized.bytes)
+whole-requires c = let sized = done-sized _ _ _ (done (goal.at.whole-requires c).In_ok-check) in record { valid = sized.valid; size = sized.bytes }
 
 pub returns-then-none_missing : goal.returns-then-none_missing
 returns-then-none_missing c =

@@ -1,8 +1,9 @@
 -- Which lines the last check of a call asks for, and what the check of a whole cube answers.
 use Rattle.std.specs.Prelude.{◌≡◌, List, ◌⊎◌, ℕ, ◌<◌}
-use Rattle.answer.specs.Values.{Value, gives, refused}
+use Rattle.answer.specs.Values.{Value, gives, refused, passes}
 use Rattle.shape.specs.declared.Shape.{Shape}
-use Rattle.shape.specs.Shapes.{AxisLine, IsLine}
+use Rattle.shape.specs.declared.Line.{Line}
+use Rattle.shape.specs.Shapes.{AxisLine, IsLine, line_of}
 use Rattle.shape.specs.Flags.{missing}
 use Rattle.cube.specs.Cube.{layer_line, CodeCube}
 use Rattle.line.specs.Line.{Codeword}
@@ -15,7 +16,11 @@ Right r sh xs fs first stride len =
     on_line (missing fs) first stride len ≡ 0 →
     (w : ℕ) → w < sh.w → Codeword r (layer_line sh xs w first stride) len
 
--- the same of the lines of an axis, and of all lines
+-- the same of line m of an axis, if there is one
+unfoldable pub LineRight : ℕ → Shape → List ℕ → List ℕ → ℕ → ℕ → Type 0
+LineRight r sh xs fs axis m = (l : Line) → line_of sh axis m ≡ passes l → Right r sh xs fs l.first l.stride l.len
+
+-- of the lines of an axis, and of all lines
 unfoldable pub AxisRight : ℕ → Shape → List ℕ → List ℕ → ℕ → Type 0
 AxisRight r sh xs fs axis = (first stride len : ℕ) → AxisLine sh axis first stride len → Right r sh xs fs first stride len
 

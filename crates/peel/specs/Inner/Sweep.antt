@@ -4,8 +4,13 @@ use Rattle.shape.specs.declared.Shape.{Shape}
 use Rattle.shape.specs.Shapes.{cells, AxisLine, stride_of, length_of, lines_of, first_of}
 use Rattle.shape.specs.Flags.{missing}
 use Rattle.stopping.specs.Stopping.{number}
+use Rattle.peel.specs.declared.state.Peeling.{Peeling}
 use Rattle.peel.specs.Peel.{Stops, Reaches}
 use Rattle.peel.specs.Inner.Wake.{Quiet}
+
+-- What a method of `Peeling` leaves as it was: which slices are lent, and the shape.
+abbrev pub Lends : Peeling → Peeling → Type 0
+Lends s t = (t.cube.ghost_name ≡ s.cube.ghost_name) × (t.flags.ghost_name ≡ s.flags.ghost_name) × (t.shape ≡ s.shape)
 
 -- no line of an axis is peeled
 unfoldable pub AxisStops : Shape → List ℕ → ℕ → Type 0

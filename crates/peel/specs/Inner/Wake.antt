@@ -4,7 +4,7 @@ use Rattle.shape.specs.declared.Shape.{Shape}
 use Rattle.shape.proofs.Geometry.{On}
 
 -- The lines 8 g to 8 g + 7 of an axis are a group and share one mark.
-unfoldable pub mark_at : ℕ → ℕ → ℕ
+abbrev pub mark_at : ℕ → ℕ → ℕ
 mark_at axis g = (axis - 1) * 8192 + g
 
 -- A mark stands for a stretch of its group's lines, which are awake: x / 8 lines before them are quiet, and x % 8 behind them. So 0 is a group that is

@@ -6,18 +6,18 @@ use Rattle.shape.specs.Shapes.{cells}
 use Rattle.shape.specs.Flags.{missing}
 use Rattle.fill.proofs.Clearing.{cell_room, cleared-skip, cleared_more, cleared-all}
 use Rattle.fill.proofs.cells.clear_missing.Goals as goal
-use Rattle.fill.proofs.cells.clear_missing.Goals.{then-flag-eq1, else-flag-eq1}
+use Rattle.fill.proofs.cells.clear_missing.Goals.{then-flag-eq-MISSING, else-flag-eq-MISSING}
 
 pub loop-n-preserved : goal.loop-n-preserved
 unfolding missing
 loop-n-preserved c =
     let so_far = c.loop-n.invariant in
-    elim c.if-flag-eq1.branch [
-      | then-flag-eq1 w ↦
+    elim c.if-flag-eq-MISSING.branch [
+      | then-flag-eq-MISSING w ↦
           rw w.cube-is
-          (cleared_more _ _ _ _ _ _ so_far (eq-eqb _ _ w.if-flag-eq1.true)
+          (cleared_more _ _ _ _ _ _ so_far (eq-eqb _ _ w.if-flag-eq-MISSING.true)
           (w.set.ensures.done (omega (arith, cell_room _ _ _ c.requires c.loop-n.n (omega arith), so_far.size))).1)
-      | else-flag-eq1 w ↦ rw w.cube-is (cleared-skip _ _ _ _ _ so_far (ne_eqb _ _ w.if-flag-eq1.false))
+      | else-flag-eq-MISSING w ↦ rw w.cube-is (cleared-skip _ _ _ _ _ so_far (ne_eqb _ _ w.if-flag-eq-MISSING.false))
     ]
 
 pub returns : goal.returns

@@ -3,12 +3,12 @@ use native.Mathlib.Omega.{arith}
 use Rattle.std.proofs.lemmas.List.{set-get_or}
 use Rattle.shape.proofs.Marks.{remarked-more, remarked-skip}
 use Rattle.fill.proofs.cells.remark.Goals as goal
-use Rattle.fill.proofs.cells.remark.Goals.{then-flag-eq3, else-flag-eq3}
+use Rattle.fill.proofs.cells.remark.Goals.{then-flag-eq-MARKED, else-flag-eq-MARKED}
 
 pub loop-flag-preserved : goal.loop-flag-preserved
 loop-flag-preserved c =
     let so_far = c.loop-flag.invariant in
-    elim c.if-flag-eq3.branch [
-      | then-flag-eq3 w ↦ rw w.flags-is (remarked-more _ _ _ _ so_far (omega (arith, so_far.size)) w.if-flag-eq3.true)
-      | else-flag-eq3 w ↦ rw (w.flags-is, set-get_or) (remarked-skip _ _ _ _ so_far w.if-flag-eq3.false)
+    elim c.if-flag-eq-MARKED.branch [
+      | then-flag-eq-MARKED w ↦ rw w.flags-is (remarked-more _ _ _ _ so_far (omega (arith, so_far.size)) w.if-flag-eq-MARKED.true)
+      | else-flag-eq-MARKED w ↦ rw (w.flags-is, set-get_or) (remarked-skip _ _ _ _ so_far w.if-flag-eq-MARKED.false)
     ]

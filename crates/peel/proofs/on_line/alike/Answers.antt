@@ -1,17 +1,18 @@
 -- `peel::on_line::alike` counts neighbouring lines that miss the same places.
-use mathlib.Core.Path.{◌≡◌}
+use Prim.Native.Nat.{◌+◌, ◌≤◌}
 use native.Mathlib.Omega.{arith}
-use Rattle.peel.proofs.Lines.{alike-more}
+use borrow.Author.Tests.{tests}
+use Rattle.std.proofs.Common.{rules}
+use Rattle.std.proofs.lemmas.Iterator.{first_from_Range}
+use Rattle.shape.specs.Flags.{missing}
+use Rattle.erasures.specs.Erasures.{Scanned}
+use Rattle.peel.proofs.Lines.{alike-found}
 use Rattle.peel.proofs.on_line.alike.Goals as goal
 
-pub overflow_add-next : goal.overflow_add-next
-overflow_add-next c =
-    omega (arith, (c.requires.by_index c.loop-n.n (omega arith)).within 0 (omega (arith, c.requires.scanned.bound c.requires.le_most.1)))
-
-pub loop-n-preserved : goal.loop-n-preserved
-loop-n-preserved c =
-    alike-more c.loop-n.invariant (c.scan_line-s.ensures.done (c.requires.by_index c.loop-n.n (omega arith))).0 c.if-s-e.false c.if-s-e-2.false
-    c.if-s-e-3.false
-
 pub returns : goal.returns
-returns c = let e : c.loop-n.n ≡ c.args.most = omega arith in (omega arith, omega arith, rw e at c.loop-n.invariant)
+returns c =
+    rw c.unwrap_or.ensures
+    (alike-found _ c.requires.le_most.0 c.requires.le_most.1 c.requires.le_most.2 c.requires.scanned
+    (first_from_Range _ _ _ _ (λ n. n ≤ n)
+    (λ n. Scanned (missing c.args.flags.now) (c.args.line.first + n) c.args.line.stride c.args.line.len c.args.e.count c.args.e.first c.args.e.last)
+    c.find.ensures.ran (λ n q k. omega arith) (λ n q k. search (rules, tests))))

@@ -58,7 +58,7 @@ alike-n-requires c = record {
 
 pub recover-requires : goal.recover-requires
 recover-requires c = record {
-  valid = (c.requires.sized.valid, c.requires.sized.bytes);
+  is_cube = record { valid = c.requires.sized.valid; size = c.requires.sized.bytes };
   neighbours = beside (goal.at.recover-requires c).After-alike-n;
   first_le_last = (scanned-order _ _ _ _ _ _ _ (scanned (goal.at.recover-requires c).After-scan_line-e) (some (goal.at.recover-requires c).Else-e-gt2), (scanned (goal.at.recover-requires c).After-scan_line-e).bound (some (goal.at.recover-requires c).Else-e-gt2));
 }

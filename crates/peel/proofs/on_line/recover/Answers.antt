@@ -9,16 +9,16 @@ use Rattle.peel.proofs.on_line.recover.Goals as goal
 use Rattle.peel.proofs.on_line.recover.Goals.{Start}
 
 few : (c : Start) → c.args.line.len ≤ 255
-few c = line-length-high _ _ _ _ c.requires.valid.0 (neighbours-first c.requires.neighbours)
+few c = line-length-high _ _ _ _ c.requires.is_cube.valid (neighbours-first c.requires.neighbours)
 
 pub overflow_mul-run : goal.overflow_mul-run
-overflow_mul-run c = omega (arith, first-room _ c.args.cube.now c.requires.valid.0 c.requires.valid.1 _ _ _ _ c.requires.neighbours)
+overflow_mul-run c = omega (arith, first-room _ c.args.cube.now c.requires.is_cube.valid c.requires.is_cube.size _ _ _ _ c.requires.neighbours)
 
 pub overflow_mul-run-2 : goal.overflow_mul-run-2
-overflow_mul-run-2 c = omega (arith, stride-room _ c.args.cube.now c.requires.valid.0 c.requires.valid.1 _ _ _ _ c.requires.neighbours)
+overflow_mul-run-2 c = omega (arith, stride-room _ c.args.cube.now c.requires.is_cube.valid c.requires.is_cube.size _ _ _ _ c.requires.neighbours)
 
 pub overflow_mul-run-3 : goal.overflow_mul-run-3
-overflow_mul-run-3 c = omega (arith, width_room _ c.args.cube.now c.requires.valid.0 c.requires.valid.1 _ _ _ _ c.requires.neighbours)
+overflow_mul-run-3 c = omega (arith, width_room _ c.args.cube.now c.requires.is_cube.valid c.requires.is_cube.size _ _ _ _ c.requires.neighbours)
 
 pub overflow_cast-e : goal.overflow_cast-e
 overflow_cast-e c = omega (arith, few (goal.at.overflow_cast-e c).Start, c.requires.first_le_last)
@@ -30,4 +30,4 @@ pub returns : goal.returns
 unfolding run_of
 returns c =
     outcome-solved _ _ _ _ _ _ _ (rw (c.erasures_at-erasures.ensures, c.reduction-reduction.ensures) at c.solve.ensures)
-    (lines-inside _ c.args.cube.now c.requires.valid.0 c.requires.valid.1 _ _ _ _ c.requires.neighbours) c.requires.first_le_last.0 c.requires.first_le_last.1
+    (lines-inside _ c.args.cube.now c.requires.is_cube.valid c.requires.is_cube.size _ _ _ _ c.requires.neighbours) c.requires.first_le_last.0 c.requires.first_le_last.1

@@ -1,20 +1,21 @@
 -- `peel::wake::groups` counts the groups of an axis: eight times as many are no fewer than its lines.
-use mathlib.Core.Path.{◌≡◌}
+use mathlib.Core.Path.{◌≡◌, ap, ◌∙◌}
 use native.Mathlib.Omega.{arith}
-use borrow.Author.Tests.{lt-leb}
+use Rattle.std.proofs.Common.{rules}
+use Rattle.std.proofs.lemmas.Result.{MatchResult-at_ok}
+use Rattle.std.specs.Int.{div_ceil}
+use Rattle.std.specs.Prelude.{Ok}
+use Rattle.answer.specs.Values.{checked, value_of}
+use Rattle.answer.proofs.Values.{value-injective}
 use Rattle.shape.specs.Shapes.{lines_of}
-use Rattle.peel.proofs.Awake.{lines-few}
+use Rattle.shape.proofs.Axes.{axis-found, lines-few}
 use Rattle.peel.proofs.wake.groups.Goals as goal
-use Rattle.peel.proofs.wake.groups.Goals.{After-div_ceil, in-1, in-2, in_default}
-
-lines-here : (c : After-div_ceil) → lines_of c.args.sh c.args.axis ≡ c.match-axis.lines
-unfolding lines_of
-lines-here c =
-    elim c.match-axis.branch [
-      | in-1 w ↦ rw (w.in-1.is, w.lines-is)
-      | in-2 w ↦ rw (w.in-2.is, w.lines-is)
-      | in_default w ↦ rw (lt-leb c.args.axis 1 (omega arith), lt-leb c.args.axis 2 (omega arith), w.lines-is)
-    ]
 
 pub returns : goal.returns
-returns c = omega (arith, c.div_ceil.ensures, lines-here c, lines-few _ c.args.axis c.requires.0)
+unfolding checked value_of
+returns c =
+    let found = value-injective c.axis_of.result (Ok _) (c.axis_of.ensures ∙ ap checked (axis-found _ _ c.requires.0 c.requires.1)) in
+    let told = MatchResult-at_ok _ _ _ found c.map_or.ensures in
+    let few = lines-few c.args.sh c.args.axis c.requires.0 in
+    let e : c.map_or.result ≡ div_ceil (lines_of c.args.sh c.args.axis) 8 = search rules in
+    (omega arith, omega arith)

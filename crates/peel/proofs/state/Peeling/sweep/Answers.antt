@@ -6,8 +6,8 @@ use Rattle.field.specs.Field.{reduction}
 use Rattle.peel.specs.Inner.Sweep.{LinesStop, Filled}
 use Rattle.peel.proofs.Visiting.{swept-quiet, swept-group, swept_all}
 use Rattle.peel.proofs.Reaching.{filled-le}
-use Rattle.peel.proofs.sweep.Peeling.sweep.Goals as goal
-use Rattle.peel.proofs.sweep.Peeling.sweep.Goals.{After-group-filled}
+use Rattle.peel.proofs.state.Peeling.sweep.Goals as goal
+use Rattle.peel.proofs.state.Peeling.sweep.Goals.{After-group-filled}
 
 -- up to the next group that is not quiet, and that one
 swept :
@@ -20,10 +20,10 @@ swept c =
     let so_far = c.loop-g.invariant in
     let pre = c.requires in
     swept-group _ (swept-quiet pre.le_axis.0 pre.le_axis.1 so_far.calm c.in-Some.ensures.2 so_far.filled)
-    (rw so_far.shape_is at c.group-filled.ensures.filled)
+    (rw so_far.lends.2 at c.group-filled.ensures.filled)
 
 pub group-filled-requires-clause-calm : goal.group-filled-requires-clause-calm
-group-filled-requires-clause-calm c = let so_far = c.loop-g.invariant in rw so_far.shape_is so_far.calm
+group-filled-requires-clause-calm c = let so_far = c.loop-g.invariant in rw so_far.lends.2 so_far.calm
 
 pub overflow_add-filled : goal.overflow_add-filled
 overflow_add-filled c = omega (arith, filled-le (swept (goal.at.overflow_add-filled c).After-group-filled), c.args.self.now.sized.flags)
@@ -34,10 +34,8 @@ loop-g-preserved c =
     let group = c.group-filled.ensures in
     record {
       from = omega (arith, c.in-Some.ensures);
-      cube_is = group.cube_is ∙ so_far.cube_is;
-      flags_is = group.flags_is ∙ so_far.flags_is;
-      shape_is = group.shape_is ∙ so_far.shape_is;
-      calm = rw so_far.shape_is at group.calm_2;
+      lends = (group.lends.0 ∙ so_far.lends.0, group.lends.1 ∙ so_far.lends.1, group.lends.2 ∙ so_far.lends.2);
+      calm = rw so_far.lends.2 at group.calm_2;
       filled = swept (goal.at.loop-g-preserved c).After-group-filled;
     }
 

@@ -7,8 +7,8 @@ use native.Mathlib.Omega.{arith}
 use Rattle.field.specs.Field.{reduction}
 use Rattle.peel.specs.Inner.Sweep.{AxisStops, Filled}
 use Rattle.peel.proofs.Reaching.{reaches-refl, reaches-trans, idle-none, turn-idle, turn-bound, turn-less, axes-peeled}
-use Rattle.peel.proofs.sweep.Peeling.sweeps.Goals as goal
-use Rattle.peel.proofs.sweep.Peeling.sweeps.Goals.{Joined-filled-eq0, then-filled-eq0, else-filled-eq0}
+use Rattle.peel.proofs.state.Peeling.sweeps.Goals as goal
+use Rattle.peel.proofs.state.Peeling.sweeps.Goals.{Joined-filled-eq0, then-filled-eq0, else-filled-eq0}
 
 turn :
     (c : Joined-filled-eq0) →
@@ -21,7 +21,7 @@ filled :
     let before = c.loop-idle.self in
     let after = c.sweep-filled.new.self in
     Filled reduction shape (λ fs. AxisStops shape fs c.loop-idle.axis) before.cube.now before.flags.now after.cube.now after.flags.now c.sweep-filled.result
-filled c = rw c.loop-idle.invariant.shape_is at c.sweep-filled.ensures.filled
+filled c = rw c.loop-idle.invariant.lends.2 at c.sweep-filled.ensures.filled
 
 pub loop-idle-init : goal.loop-idle-init
 loop-idle-init c =
@@ -29,16 +29,14 @@ loop-idle-init c =
       low = omega arith;
       high = omega arith;
       few = omega arith;
-      cube_is = refl;
-      flags_is = refl;
-      shape_is = refl;
+      lends = (refl, refl, refl);
       reaches = reaches-refl _ _ _ _;
       idle = idle-none _ _ _;
       calm = c.requires;
     }
 
 pub sweep-filled-requires-clause-calm : goal.sweep-filled-requires-clause-calm
-sweep-filled-requires-clause-calm c = let so_far = c.loop-idle.invariant in rw so_far.shape_is so_far.calm
+sweep-filled-requires-clause-calm c = let so_far = c.loop-idle.invariant in rw so_far.lends.2 so_far.calm
 
 pub loop-idle-smaller : goal.loop-idle-smaller
 loop-idle-smaller c =
@@ -53,12 +51,10 @@ loop-idle-preserved c =
       low = omega arith;
       high = omega arith;
       few = turn-bound _ (filled here) _ _ (turn here) (omega arith);
-      cube_is = swept.cube_is ∙ so_far.cube_is;
-      flags_is = swept.flags_is ∙ so_far.flags_is;
-      shape_is = swept.shape_is ∙ so_far.shape_is;
+      lends = (swept.lends.0 ∙ so_far.lends.0, swept.lends.1 ∙ so_far.lends.1, swept.lends.2 ∙ so_far.lends.2);
       reaches = reaches-trans so_far.reaches (filled here).reaches;
       idle = turn-idle _ (filled here) _ _ (turn here) so_far.low so_far.high so_far.idle;
-      calm = rw so_far.shape_is at swept.calm_2;
+      calm = rw so_far.lends.2 at swept.calm_2;
     }
 
 pub returns-clause-peeled : goal.returns-clause-peeled

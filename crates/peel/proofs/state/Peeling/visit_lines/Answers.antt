@@ -6,8 +6,8 @@ use Rattle.field.specs.Field.{reduction}
 use Rattle.peel.specs.Inner.Sweep.{Visited}
 use Rattle.peel.proofs.Visiting.{visited-next, visited-fewer}
 use Rattle.peel.proofs.Reaching.{filled-le}
-use Rattle.peel.proofs.sweep.Peeling.visit_lines.Goals as goal
-use Rattle.peel.proofs.sweep.Peeling.visit_lines.Goals.{After-visit-step}
+use Rattle.peel.proofs.state.Peeling.visit_lines.Goals as goal
+use Rattle.peel.proofs.state.Peeling.visit_lines.Goals.{After-visit-step}
 
 -- some lines more
 visited :
@@ -18,7 +18,7 @@ visited :
     after.cube.now after.flags.now after.marks (c.loop-m.filled + c.visit-step.result.filled)
 visited c =
     let so_far = c.loop-m.invariant in
-    visited-next c.requires.0 c.requires.1 so_far.visited (rw so_far.shape_is at c.visit-step.ensures.visited)
+    visited-next c.requires.0.0 c.requires.0.1 so_far.visited (rw so_far.lends.2 at c.visit-step.ensures.visited)
 
 pub overflow_add-filled : goal.overflow_add-filled
 overflow_add-filled c =
@@ -30,9 +30,7 @@ loop-m-preserved c =
     let step = c.visit-step.ensures in
     record {
       from = omega (arith, so_far.from);
-      cube_is = step.cube_is ∙ so_far.cube_is;
-      flags_is = step.flags_is ∙ so_far.flags_is;
-      shape_is = step.shape_is ∙ so_far.shape_is;
+      lends = (step.lends.0 ∙ so_far.lends.0, step.lends.1 ∙ so_far.lends.1, step.lends.2 ∙ so_far.lends.2);
       visited = visited (goal.at.loop-m-preserved c).After-visit-step;
     }
 

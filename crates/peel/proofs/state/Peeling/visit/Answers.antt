@@ -7,8 +7,8 @@ use Rattle.shape.specs.Shapes.{line_of}
 use Rattle.shape.proofs.Geometry.{line-found, line-stride-pos}
 use Rattle.cube.proofs.AxisRuns.{lines-ended}
 use Rattle.peel.proofs.Visiting.{neighbours-of, visited-past, visited-lines}
-use Rattle.peel.proofs.sweep.Peeling.visit.Goals as goal
-use Rattle.peel.proofs.sweep.Peeling.visit.Goals.{In-Ok}
+use Rattle.peel.proofs.state.Peeling.visit.Goals as goal
+use Rattle.peel.proofs.state.Peeling.visit.Goals.{In-Ok}
 
 found : (c : In-Ok) → line_of c.args.self.now.shape c.args.axis c.args.m ≡ passes c.in-Ok.line
 found c = value-passed _ _ _ c.axis_line.ensures c.in-Ok.is
@@ -16,11 +16,11 @@ found c = value-passed _ _ _ c.axis_line.ensures c.in-Ok.is
 pub returns-in_default-clause-visited : goal.returns-in_default-clause-visited
 returns-in_default-clause-visited c =
     visited-past _ _ _ _
-    (lines-ended _ _ _ _ c.args.self.now.sized.valid c.requires.0 c.requires.1 (value-refused _ _ _ c.axis_line.ensures c.in_default.is))
+    (lines-ended _ _ _ _ c.args.self.now.sized.valid c.requires.0.0 c.requires.0.1 (value-refused _ _ _ c.axis_line.ensures c.in_default.is))
 
 pub beside-most-requires : goal.beside-most-requires
 beside-most-requires c =
-    (line-stride-pos _ _ _ _ c.args.self.now.sized.valid (line-found _ _ _ _ (found (goal.at.beside-most-requires c).In-Ok)), c.requires.2)
+    (line-stride-pos _ _ _ _ c.args.self.now.sized.valid (line-found _ _ _ _ (found (goal.at.beside-most-requires c).In-Ok)), c.requires.1)
 
 pub fill_lines-requires-clause-neighbours : goal.fill_lines-requires-clause-neighbours
 fill_lines-requires-clause-neighbours c =

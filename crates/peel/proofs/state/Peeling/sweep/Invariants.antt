@@ -1,17 +1,14 @@
 -- `Peeling::sweep` visits each group of an axis that is not quiet; the lines of a quiet one stop.
-use mathlib.Core.Path.{◌≡◌}
 use Prim.Native.Nat.{◌-◌, ◌*◌, ◌≤◌}
 use Rattle.field.specs.Field.{reduction}
-use Rattle.peel.specs.Inner.Sweep.{LinesStop, Filled, Calm}
-use Rattle.peel.proofs.sweep.Peeling.sweep.Given as goal
+use Rattle.peel.specs.Inner.Sweep.{Lends, LinesStop, Filled, Calm}
+use Rattle.peel.proofs.state.Peeling.sweep.Given as goal
 
 abbrev pub invariant-loop-g : goal.invariant-loop-g
 invariant-loop-g l =
     record {
       from : l.from ≤ l.groups;
-      cube_is : l.self.cube.ghost_name ≡ l.initial.self.cube.ghost_name;
-      flags_is : l.self.flags.ghost_name ≡ l.initial.self.flags.ghost_name;
-      shape_is : l.self.shape ≡ l.initial.self.shape;
+      lends : Lends l.initial.self l.self;
       calm : Calm l.initial.self.shape l.self.flags.now l.self.marks;
       filled : Filled reduction l.initial.self.shape (LinesStop l.initial.self.shape l.axis 0 (l.from * 8)) l.initial.self.cube.now l.initial.self.flags.now l.self.cube.now l.self.flags.now l.filled;
     }
