@@ -42,12 +42,12 @@ pub fn write_air(cube: &[u8], out: &mut [u8], h: Header) -> Result<(), Refusal>
 }
 
 // The checks of a call that is lent a cube and the pack of its cells.
-fn slices_fit(h: Header, bytes: usize, output: usize) -> Result<(), Refusal>
+pub fn slices_fit(h: Header, bytes: usize, output: usize) -> Result<(), Refusal>
     ensures { value_of result ≡ checked (air_checked h bytes output) }
 {
     let size = written_bytes(h)?;
-    let sh = h.shape;
-    if bytes != sh.w * (sh.l1 * sh.l2 * sh.l3) || output != size {
+    let z = shape::measure(h.shape)?;
+    if bytes != z.bytes || output != size {
         return Err(Refusal::Plain(Fault::SliceLength));
     }
     Ok(())
@@ -79,7 +79,7 @@ pub(crate) fn put_count(c: Cursor, out: &mut [u8], n: usize) -> Cursor
     requires { c.at + 4 ≤ length out.old }
     ensures { Laid out.old c (word_bytes n) out.new result }
 {
-    put_bytes(c, out, &count_bytes(n), 0, 4)
+    put_bytes(c, out, &count_bytes(n))
 }
 
 // The first five bytes of section 1.
@@ -89,16 +89,17 @@ pub(crate) fn put_shape(out: &mut [u8], c: Cursor, sh: Shape) -> Cursor
 {
     let [low, high, ..] = sh.w.to_le_bytes();
     let bytes = [sh.l1 as u8, sh.l2 as u8, sh.l3 as u8, low, high];
-    put_bytes(c, out, &bytes, 0, 5)
+    put_bytes(c, out, &bytes)
 }
 
-// The n bytes of `src` from `from` on.
-fn put_bytes(c: Cursor, out: &mut [u8], src: &[u8], from: usize, n: usize) -> Cursor
-    requires { (c.at + n ≤ length out.old) × (from + n ≤ length src.now) }
-    ensures { Laid out.old c (take n (drop from src.now)) out.new result }
+// So many bytes. The cursor and the slice are handed on as two: what a call answers, and its caller keeps, is the cursor alone.
+fn put_bytes(c: Cursor, out: &mut [u8], bytes: &[u8]) -> Cursor
+    requires { c.at + length bytes.now ≤ length out.old }
+    ensures { Laid out.old c bytes.now out.new result }
 {
     let at = c.at;
-    span::copy(src, out, from, at, n);
+    let n = bytes.len();
+    span::copy(bytes, out, 0, at, n);
     Cursor { at: at + n }
 }
 
@@ -182,5 +183,5 @@ fn put_packet(
 {
     let w = sh.w;
     let cell = write_coordinates(out, at, a as u8, b as u8, c as u8);
-    put_bytes(cell, out, cube, n * w, w)
+    put_bytes(cell, out, &cube[n * w..n * w + w])
 }
