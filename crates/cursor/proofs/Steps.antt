@@ -108,3 +108,8 @@ module _ (p : List ℕ) (c : Cursor) (n : ℕ) (r : Result (ℕ × Cursor) Refus
   pub bytes-refused : (f : Refusal) → r ≡ Err f → {A : Type 0} (next : ℕ → Cursor → Checked A) → refusal {A = A} f ≡ checked (bytes p c n next)
   unfolding bytes
   bytes-refused f q next = row-refused _ 6 (c.at, record { at = c.at + n }) _ f (value-refused r _ f e q)
+
+  -- and there is no room for the bytes
+  pub bytes-short : (f : Refusal) → r ≡ Err f → length p < c.at + n
+  unfolding bytes
+  bytes-short f q = leb-false (c.at + n) (length p) (row-cut _ 6 (c.at, record { at = c.at + n }) f (value-refused r _ f e q))

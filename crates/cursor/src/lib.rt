@@ -28,6 +28,7 @@ impl Cursor {
     {
         let at = self.at;
         let len = pack.len();
+        // By differences, since a sum could wrap; `checked_add` with a filter says the same, with a closure more.
         if len < n || len - n < at {
             return Err(Refusal::Plain(Fault::Truncated));
         }

@@ -16,7 +16,8 @@ pub struct Section {
     pub count: usize,
 }
 
-// What section 1 holds: the shape, with the sizes that were measured; its count, 5 or 9; and the data cells in use, which are all of them with count 5.
+// What section 1 holds: the shape, with the sizes that were measured; its count, 5 or 9; and the data cells in use, which are all of them with count 5. The
+// count is a number beside them, since `sent_cells`, `written_bytes` and `write_air` answer 7 for every other (`sent_checked`).
 #[derive(Clone, Copy)]
 pub struct Header {
     pub shape: Shape,

@@ -20,8 +20,8 @@ pub struct Packets<'a> {
 impl Packets<'_> {
     // The first packet that names no cell that is sent. Mostly every cell is sent, and then no packet is asked for more than its coordinates.
     pub fn first_outside(&self) -> Option<usize>
-        ensures { MatchOption result (FirstOutside self.now.bytes.now self.now.header self.now.section self.now.section.count)
-            (λ i. FirstOutside self.now.bytes.now self.now.header self.now.section i × (i < self.now.section.count)) }
+        ensures { let k = self.now in MatchOption result (FirstOutside k.bytes.now k.header k.section k.section.count)
+            (λ i. FirstOutside k.bytes.now k.header k.section i × (i < k.section.count)) }
     {
         let off = self.first_off();
         if all_sent(self.header) {
@@ -32,8 +32,8 @@ impl Packets<'_> {
 
     // The first packet that names no cell of the cube.
     fn first_off(&self) -> Option<usize>
-        ensures { MatchOption result (FirstOff self.now.bytes.now self.now.header self.now.section self.now.section.count)
-            (λ i. FirstOff self.now.bytes.now self.now.header self.now.section i × (i < self.now.section.count)) }
+        ensures { let k = self.now in MatchOption result (FirstOff k.bytes.now k.header k.section k.section.count)
+            (λ i. FirstOff k.bytes.now k.header k.section i × (i < k.section.count)) }
     {
         (0..self.section.count).find(|i| self.packet(*i).is_none())
     }
@@ -49,7 +49,7 @@ impl Packets<'_> {
     // Whether packet i names a cell that is not sent.
     fn names_unsent(&self, i: usize) -> bool
         requires { OnCube self.now.bytes.now self.now.header self.now.section i }
-        ensures { result ≡ unsent self.now.header ((source self.now.bytes.now self.now.header self.now.section).place i) }
+        ensures { let k = self.now in result ≡ unsent k.header ((source k.bytes.now k.header k.section).place i) }
     {
         // No `is_some_and`: what `is_unsent` asks is known of these parts alone, and a closure would ask it of any.
         let Some((a, b, c, _)) = self.parts(i) else {
@@ -66,8 +66,8 @@ impl Packets<'_> {
         named(self.header.shape, a, b, c, at)
     }
 
-    // Packet i as it stands there, a, b, c and where its bytes begin, without check 11. The limits keep all products in a machine word; every header that
-    // was read is within them.
+    // Packet i as it stands there, a, b, c and where its bytes begin, without check 11: a tuple, since each caller takes it apart at once. The limits keep
+    // all products in a machine word; every header that was read is within them.
     pub fn parts(&self, i: usize) -> Option<(u8, u8, u8, usize)>
         ensures { PartsOutcome self.now.bytes.now self.now.header self.now.section i result }
     {

@@ -13,8 +13,8 @@ use Rattle.answer.specs.Values.{Value, gives, passes, check, and_then, checked, 
 use Rattle.answer.proofs.Values.{gives-injective, refusal-gives, passes-injective, passes-fails, check-passed, then-passed, value-failed}
 use Rattle.shape.specs.declared.Shape.{Shape}
 use Rattle.shape.specs.declared.Sizes.{Sizes}
-use Rattle.shape.specs.Shapes.{cells, sizes, shape_checked}
-use Rattle.shape.proofs.Valid.{both-parts, both_true, shape-passed, volume-le}
+use Rattle.shape.specs.Shapes.{both, cells, sizes, shape_checked}
+use Rattle.shape.proofs.Valid.{both-parts, both_true, shape-passed, valid-passes, volume-le}
 use Rattle.stopping.specs.Stopping.{number}
 use Rattle.stopping.proofs.Number.{number-all, number-le}
 use Rattle.pack.specs.declared.Header.{Header}
@@ -75,6 +75,18 @@ written-passed h size e =
     let told : air_size h n ≡ size = passes-injective _ _ rest in
     (sent, sym told ∙ ap (air_size h) same)
 
+-- the shape of such a header passes its checks, and has the bytes of its cells
+pub shape-not-refused : (h : Header) (size : ℕ) → written_checked h ≡ passes size → (r : Result Sizes Refusal)
+    → value_of r ≡ checked (shape_checked h.shape) → (f : Refusal) → r ≡ Err f → ⊥
+unfolding value_of checked
+shape-not-refused h size e r told f q =
+    let v = (written-passed h size e).0.valid in
+    refusal-gives f (sizes h.shape) (rw (q, valid-passes h.shape v) at told)
+
+pub shape-bytes : (sh : Shape) (z : Sizes) → shape_checked sh ≡ passes z → z.bytes ≡ sh.w * cells sh
+unfolding sizes
+shape-bytes sh z e = rw (shape-passed sh z e).1
+
 -- ---- `write_air`
 
 pub air-passed : (h : Header) (bytes size : ℕ) → air_checked h bytes size ≡ passes tt
@@ -86,6 +98,12 @@ air-passed h bytes size e =
     let (t, _) = check-passed _ 4 _ tt rest in
     let (p, q) = both-parts (eqb bytes (h.shape.w * cells h.shape)) (eqb size n) t in
     (sent, eqb-true bytes _ p, eqb-true size n q ∙ same)
+
+-- a header that section 1 can have leaves 4 alone
+pub air-checks : (h : Header) (bytes size : ℕ) → HeaderSent h
+    → air_checked h bytes size ≡ check (both (eqb bytes (h.shape.w * cells h.shape)) (eqb size (pack_size h))) 4 (passes tt)
+unfolding air_checked written_checked pack_size and_then
+air-checks h bytes size sent = rw (sent-passes h sent) refl
 
 passed-air : (h : Header) (bytes size : ℕ) → HeaderSent h → bytes ≡ h.shape.w * cells h.shape → size ≡ pack_size h
     → air_checked h bytes size ≡ passes tt

@@ -67,13 +67,11 @@ fn put_section(out: &mut [u8], sh: Shape, count: usize, used: usize) -> Cursor
 pub fn write_coordinates(out: &mut [u8], at: Cursor, a: u8, b: u8, c: u8) -> Cursor
     ensures { CoordinatesOutcome out.old at a b c out.new result }
 {
-    let i = at.at;
-    let len = out.len();
-    if len < 3 || len - 3 < i {
+    let Ok((i, next)) = at.bytes(out, 3) else {
         return at;
-    }
+    };
     out[i] = a;
     out[i + 1] = b;
     out[i + 2] = c;
-    Cursor { at: i + 3 }
+    next
 }

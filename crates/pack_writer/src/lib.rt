@@ -8,4 +8,4 @@ mod writing;
 pub use air::{air_bytes, start_air, write_coordinates};
 use answer::Refusal;
 use cursor::Cursor;
-pub use writing::{pack_bytes, write_air, written_bytes};
+pub use writing::{pack_bytes, slices_fit, write_air, written_bytes};

@@ -8,7 +8,7 @@ ghost use Rattle.cursor.specs.Steps.{word_bytes};
 ghost use Rattle.pack.specs.Packs.{shape_bytes, packet_bytes, packets, packet_of, sends, sent_packets, air_pack, pack_size};
 ghost use Rattle.pack.proofs.Sound.{HeaderSent};
 ghost use Rattle.pack_writer.specs.Writing.{size_checked, written_checked, air_checked, AirOutcome, Laid};
-ghost use Rattle.pack_writer.specs.Inner.Writing.{packets_from, row_sent, IsCell};
+ghost use Rattle.pack_writer.specs.Inner.Writing.{packets_from, row_sent};
 
 use crate::air::{put_head, write_coordinates};
 use answer::{Fault, Refusal};
@@ -42,12 +42,12 @@ pub fn write_air(cube: &[u8], out: &mut [u8], h: Header) -> Result<(), Refusal>
 }
 
 // The checks of a call that is lent a cube and the pack of its cells.
-fn slices_fit(h: Header, bytes: usize, output: usize) -> Result<(), Refusal>
+pub fn slices_fit(h: Header, bytes: usize, output: usize) -> Result<(), Refusal>
     ensures { value_of result ≡ checked (air_checked h bytes output) }
 {
     let size = written_bytes(h)?;
-    let sh = h.shape;
-    if bytes != sh.w * (sh.l1 * sh.l2 * sh.l3) || output != size {
+    let z = shape::measure(h.shape)?;
+    if bytes != z.bytes || output != size {
         return Err(Refusal::Plain(Fault::SliceLength));
     }
     Ok(())
@@ -62,7 +62,8 @@ pub(crate) fn size_of(count: usize, packets: usize, w: usize) -> usize
     12 + count + packets * packet
 }
 
-// The three sections. What `requires` says of the header leaves `sent_cells` no refusal, so none is answered.
+// The three sections. What `requires` says of the header leaves `sent_cells` no refusal, so none is answered. The cube's length stands written out from here
+// on: `IsCube` is of the crate `data`, on which this one does not stand.
 fn write_sections(cube: &[u8], out: &mut [u8], h: Header)
     requires { HeaderSent h × (length cube.now ≡ h.shape.w * cells h.shape) × (length out.old ≡ pack_size h) }
     ensures { out.new ≡ air_pack h (sent_packets h cube.now) }
@@ -79,7 +80,7 @@ pub(crate) fn put_count(c: Cursor, out: &mut [u8], n: usize) -> Cursor
     requires { c.at + 4 ≤ length out.old }
     ensures { Laid out.old c (word_bytes n) out.new result }
 {
-    put_bytes(c, out, &count_bytes(n), 0, 4)
+    put_bytes(c, out, &count_bytes(n))
 }
 
 // The first five bytes of section 1.
@@ -89,16 +90,17 @@ pub(crate) fn put_shape(out: &mut [u8], c: Cursor, sh: Shape) -> Cursor
 {
     let [low, high, ..] = sh.w.to_le_bytes();
     let bytes = [sh.l1 as u8, sh.l2 as u8, sh.l3 as u8, low, high];
-    put_bytes(c, out, &bytes, 0, 5)
+    put_bytes(c, out, &bytes)
 }
 
-// The n bytes of `src` from `from` on.
-fn put_bytes(c: Cursor, out: &mut [u8], src: &[u8], from: usize, n: usize) -> Cursor
-    requires { (c.at + n ≤ length out.old) × (from + n ≤ length src.now) }
-    ensures { Laid out.old c (take n (drop from src.now)) out.new result }
+// So many bytes. The cursor and the slice are handed on as two: what a call answers, and its caller keeps, is the cursor alone.
+fn put_bytes(c: Cursor, out: &mut [u8], bytes: &[u8]) -> Cursor
+    requires { c.at + length bytes.now ≤ length out.old }
+    ensures { Laid out.old c bytes.now out.new result }
 {
     let at = c.at;
-    span::copy(src, out, from, at, n);
+    let n = bytes.len();
+    span::copy(bytes, out, 0, at, n);
     Cursor { at: at + n }
 }
 
@@ -157,30 +159,19 @@ fn put_run(
         × (c.at + (to - from) * (3 + sh.w) ≤ length out.old) }
     ensures { Laid out.old c (packets (packets_from sh cube.now (sh.l1 * q + from) (to - from))) out.new result }
 {
-    let b = q % sh.l2;
-    let c3 = q / sh.l2;
     let mut next = c;
     for a in from..to {
-        next = put_packet(cube, out, next, sh, sh.l1 * q + a, a, b, c3);
+        next = put_packet(cube, out, next, sh, q, a);
     }
     next
 }
 
-// The packet of cell n, which is (a,b,c): its coordinates, then its bytes.
-fn put_packet(
-    cube: &[u8],
-    out: &mut [u8],
-    at: Cursor,
-    sh: Shape,
-    n: usize,
-    a: usize,
-    b: usize,
-    c: usize,
-) -> Cursor
-    requires { Valid sh × (n < cells sh) × (length cube.now ≡ sh.w * cells sh) × (at.at + (3 + sh.w) ≤ length out.old) × IsCell sh n a b c }
-    ensures { Laid out.old at (packet_bytes (packet_of sh cube.now n)) out.new result }
+// The packet of cell a of row q: its coordinates, then its bytes.
+fn put_packet(cube: &[u8], out: &mut [u8], at: Cursor, sh: Shape, q: usize, a: usize) -> Cursor
+    requires { Valid sh × (q < sh.l2 * sh.l3) × (a < sh.l1) × (length cube.now ≡ sh.w * cells sh) × (at.at + (3 + sh.w) ≤ length out.old) }
+    ensures { Laid out.old at (packet_bytes (packet_of sh cube.now (sh.l1 * q + a))) out.new result }
 {
-    let w = sh.w;
-    let cell = write_coordinates(out, at, a as u8, b as u8, c as u8);
-    put_bytes(cell, out, cube, n * w, w)
+    let cell = write_coordinates(out, at, a as u8, (q % sh.l2) as u8, (q / sh.l2) as u8);
+    let from = (sh.l1 * q + a) * sh.w;
+    put_bytes(cell, out, &cube[from..from + sh.w])
 }

@@ -19,8 +19,8 @@ pub(crate) fn gather(
     flags: &mut [u8],
 ) -> Result<(usize, Counts), Refusal>
     requires { Fits packets.now cube.old flags.old }
-    ensures { (checks : Checked (Header × Section)) → checks ≡ passes (packets.now.header, packets.now.section)
-        → GatherOutcome reduction packets.now.bytes.now checks cube.old flags.old cube.new flags.new (gathering_value result) (gathering_counts result) }
+    ensures { let k = packets.now in (checks : Checked (Header × Section)) → checks ≡ passes (k.header, k.section)
+        → GatherOutcome reduction k.bytes.now checks cube.old flags.old cube.new flags.new (gathering_value result) (gathering_counts result) }
 {
     if let Some(i) = packets.first_outside() {
         return Err(Refusal::Packet(PacketFault::CellIndex, i as u64));

@@ -16,10 +16,10 @@ use shape::{Shape, flags};
 
 // Places all packets, and counts them.
 pub(crate) fn place(packets: &Packets, cube: &mut [u8], flags: &mut [u8]) -> Counts
-    requires { let h = packets.now.header in AllNamed packets.now
-        × IsCube h.shape cube.old × (length flags.old ≡ cells h.shape) × (h.used ≤ data_cells h.shape) }
-    ensures { let h = packets.now.header in Placed h (sequence packets.now) packets.now.section.count cube.new flags.new
-        × (result ≡ counts_of h.shape (sequence packets.now)) }
+    requires { let k = packets.now in AllNamed k × IsCube k.header.shape cube.old × (length flags.old ≡ cells k.header.shape)
+        × (k.header.used ≤ data_cells k.header.shape) }
+    ensures { let k = packets.now in Placed k.header (sequence k) k.section.count cube.new flags.new
+        × (result ≡ counts_of k.header.shape (sequence k)) }
 {
     begin(cube, flags, packets.header);
     let repeats = place_packets(packets, cube, flags);
@@ -49,8 +49,7 @@ fn begin(cube: &mut [u8], flags: &mut [u8], h: Header)
 // their own.
 fn place_packets(packets: &Packets, cube: &mut [u8], flags: &mut [u8]) -> usize
     requires { Placeable packets.now 0 cube.old flags.old }
-    ensures { Marked packets.now.header (sequence packets.now) packets.now.section.count cube.new flags.new
-        × (result ≡ repeats_of (sequence packets.now) packets.now.section.count) }
+    ensures { let k = packets.now in Marked k.header (sequence k) k.section.count cube.new flags.new × (result ≡ repeats_of (sequence k) k.section.count) }
 {
     let n = packets.section.count;
     let mut repeats = 0;
@@ -68,8 +67,8 @@ fn place_packets(packets: &Packets, cube: &mut [u8], flags: &mut [u8]) -> usize
 // The loop is told whether cells are single bytes, so that the compiler makes two of it: of a single byte the copy of a span would cost more than all else.
 fn place_new(packets: &Packets, cube: &mut [u8], flags: &mut [u8], from: usize) -> usize
     requires { Placeable packets.now from cube.old flags.old }
-    ensures { Run packets.now.header (sequence packets.now) packets.now.section.count from result cube.new flags.new 0
-        × Stops (sequence packets.now) packets.now.section.count result true }
+    ensures { let k = packets.now in Run k.header (sequence k) k.section.count from result cube.new flags.new 0
+        × Stops (sequence k) k.section.count result true }
 {
     if packets.header.shape.w == 1 {
         place_firsts::<true>(packets, cube, flags, from)
@@ -86,8 +85,8 @@ fn place_firsts<const SINGLE: bool>(
 ) -> usize
     requires placeable { Placeable packets.now from cube.old flags.old }
     requires w_value { SINGLE ≡ true → packets.now.header.shape.w ≡ 1 }
-    ensures { Run packets.now.header (sequence packets.now) packets.now.section.count from result cube.new flags.new 0
-        × Stops (sequence packets.now) packets.now.section.count result true }
+    ensures { let k = packets.now in Run k.header (sequence k) k.section.count from result cube.new flags.new 0
+        × Stops (sequence k) k.section.count result true }
 {
     let n = packets.section.count;
     for i in from..n {
@@ -105,7 +104,7 @@ fn place_first<const SINGLE: bool>(
     flags: &mut [u8],
     i: usize,
 ) -> bool
-    requires valid { Valid packets.now.header.shape × Named packets.now.bytes.now packets.now.header packets.now.section i × Marked packets.now.header (sequence packets.now) i cube.old flags.old }
+    requires valid { let k = packets.now in Valid k.header.shape × Named k.bytes.now k.header k.section i × Marked k.header (sequence k) i cube.old flags.old }
     requires w_value { SINGLE ≡ true → packets.now.header.shape.w ≡ 1 }
     ensures { Tried packets.now.header (sequence packets.now) i cube.old flags.old cube.new flags.new 0 true result }
 {
@@ -136,8 +135,8 @@ fn put<const SINGLE: bool>(air: &[u8], cube: &mut [u8], from: usize, m: usize, w
 // takes: one loop for both would be given the step as a closure over the lent cube and flags, which had to say all that the two contracts say.
 fn place_repeats(packets: &Packets, cube: &mut [u8], flags: &mut [u8], from: usize) -> usize
     requires { Placeable packets.now from cube.old flags.old }
-    ensures { Run packets.now.header (sequence packets.now) packets.now.section.count from result cube.new flags.new 1
-        × Stops (sequence packets.now) packets.now.section.count result false }
+    ensures { let k = packets.now in Run k.header (sequence k) k.section.count from result cube.new flags.new 1
+        × Stops (sequence k) k.section.count result false }
 {
     let n = packets.section.count;
     for i in from..n {
@@ -151,7 +150,7 @@ fn place_repeats(packets: &Packets, cube: &mut [u8], flags: &mut [u8], from: usi
 // Compares a repeat with the bytes of its cell, and marks the cell where they differ, which nothing takes back. False, and nothing changed, where
 // no copy came before.
 fn place_repeat(packets: &Packets, cube: &mut [u8], flags: &mut [u8], i: usize) -> bool
-    requires { Valid packets.now.header.shape × Named packets.now.bytes.now packets.now.header packets.now.section i × Marked packets.now.header (sequence packets.now) i cube.old flags.old }
+    requires { let k = packets.now in Valid k.header.shape × Named k.bytes.now k.header k.section i × Marked k.header (sequence k) i cube.old flags.old }
     ensures { Tried packets.now.header (sequence packets.now) i cube.old flags.old cube.new flags.new 1 false result }
 {
     let w = packets.header.shape.w;

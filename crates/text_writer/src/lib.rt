@@ -67,8 +67,8 @@ impl Air<'_> {
     // The line of the shape, then the packets. `printing` stands on `io` alone, so that the four numbers are handed on here and in `receive`, each by a cast:
     // there is no From of usize for u64.
     fn put(&self, text: &mut [u8])
-        requires { length text.old ≡ length (text_in self.now.packets.bytes.now (self.now.packets.header, self.now.packets.section)) }
-        ensures { text.new ≡ text_in self.now.packets.bytes.now (self.now.packets.header, self.now.packets.section) }
+        requires { let k = self.now.packets in length text.old ≡ length (text_in k.bytes.now (k.header, k.section)) }
+        ensures { let k = self.now.packets in text.new ≡ text_in k.bytes.now (k.header, k.section) }
     {
         let sh = self.packets.header.shape;
         let behind = printing::append_shape(
@@ -84,8 +84,8 @@ impl Air<'_> {
 
     // A line for each packet.
     fn append_lines(&self, text: &mut [u8], from: usize) -> usize
-        requires { from + length (packet_lines (packets_in self.now.packets.bytes.now self.now.packets.header self.now.packets.section)) ≤ length text.old }
-        ensures { Appended text.old from (packet_lines (packets_in self.now.packets.bytes.now self.now.packets.header self.now.packets.section)) text.new result }
+        requires { let k = self.now.packets in from + length (packet_lines (packets_in k.bytes.now k.header k.section)) ≤ length text.old }
+        ensures { let k = self.now.packets in Appended text.old from (packet_lines (packets_in k.bytes.now k.header k.section)) text.new result }
     {
         let mut at = from;
         for i in 0..self.packets.section.count {
@@ -96,8 +96,9 @@ impl Air<'_> {
 
     // The line of packet i. Every packet of a pack that was read stands in it, so that nothing is left out.
     fn append_packet(&self, text: &mut [u8], at: usize, i: usize) -> usize
-        requires { (i < self.now.packets.section.count) × (at + length (packet_line (packet_in self.now.packets.bytes.now self.now.packets.header self.now.packets.section i)) ≤ length text.old) }
-        ensures { Appended text.old at (packet_line (packet_in self.now.packets.bytes.now self.now.packets.header self.now.packets.section i)) text.new result }
+        requires { let k = self.now.packets in (i < k.section.count)
+            × (at + length (packet_line (packet_in k.bytes.now k.header k.section i)) ≤ length text.old) }
+        ensures { let k = self.now.packets in Appended text.old at (packet_line (packet_in k.bytes.now k.header k.section i)) text.new result }
     {
         let Some((a, b, c, from)) = self.packets.parts(i) else {
             return at;
@@ -120,7 +121,7 @@ impl Air<'_> {
 
     // The length of the text.
     fn text_length(&self) -> usize
-        ensures { result ≡ length (text_in self.now.packets.bytes.now (self.now.packets.header, self.now.packets.section)) }
+        ensures { let k = self.now.packets in result ≡ length (text_in k.bytes.now (k.header, k.section)) }
     {
         let mut len = first_length(self.packets.header.shape);
         for i in 0..self.packets.section.count {
@@ -132,7 +133,7 @@ impl Air<'_> {
     // The length of the line of packet i: its label, numbers, spaces and newline, and three characters a byte. No packet is without parts.
     fn line_length(&self, i: usize) -> usize
         requires { i < self.now.packets.section.count }
-        ensures { (result ≡ length (packet_line (packet_in self.now.packets.bytes.now self.now.packets.header self.now.packets.section i))) × (result ≤ 3142) }
+        ensures { let k = self.now.packets in (result ≡ length (packet_line (packet_in k.bytes.now k.header k.section i))) × (result ≤ 3142) }
     {
         let Some((a, b, c, _)) = self.packets.parts(i) else {
             return 0;

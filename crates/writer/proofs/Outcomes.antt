@@ -1,24 +1,21 @@
 -- From the parts to the whole: the data string in the cube, its code cube, and the writer's answer.
 use Rattle.std.specs.Prelude.{Ok, Err}
-use mathlib.Core.Path.{◌≡◌, refl, ◌∙◌}
-use mathlib.Core.Bool.{true, false}
+use mathlib.Core.Path.{◌≡◌, refl, ap, ◌∙◌}
+use mathlib.Core.Bool.{Bool, true, false}
 use mathlib.Core.List.{List}
 use Prim.Native.Nat.{ℕ, ◌+◌, ◌-◌, ◌*◌, ◌<◌}
 use native.Mathlib.Omega.{arith}
 use lib.Dec.{eqb}
 use lib.ListN.{length, get_or, take, drop}
-use borrow.Author.Tests.{eqb-true}
-use Rattle.answer.specs.declared.Fault.TheVariants.{SliceLength}
+use borrow.Author.Tests.{eq-eqb}
 use Rattle.answer.specs.declared.Refusal.{Refusal}
-use Rattle.answer.specs.declared.Refusal.TheVariants.{Plain}
-use Rattle.answer.specs.Refusals.{fault_number}
-use Rattle.answer.specs.Values.{Value, passes, check, and_then, checked, refusal, value_of}
-use Rattle.answer.proofs.Values.{checked-fails, then-refused}
+use Rattle.answer.specs.Values.{Value, refused, passes, check, and_then, checked, refusal, value_of}
+use Rattle.answer.proofs.Values.{refusal-gives, checked-fails, then-refused}
 use Rattle.field.specs.Field.{Primitive}
 use Rattle.span.specs.Span.{SetTo}
 use Rattle.span.proofs.Putting.{copied-put}
 use Rattle.shape.specs.Shapes.{both, cells, capacity, sizes}
-use Rattle.shape.proofs.Valid.{both-parts}
+use Rattle.shape.proofs.Valid.{both_true}
 use Rattle.data.specs.Data.{held_data}
 use Rattle.data.specs.Calls.{SetOutcome, WriteOutcome as DataOutcome}
 use Rattle.data.proofs.Checks.{cube-done-checked, write-done-checked}
@@ -34,7 +31,9 @@ use Rattle.pack.specs.declared.Header.{Header}
 use Rattle.pack.specs.declared.Section.{Section}
 use Rattle.pack.specs.Packs.{pack_size, data_string}
 use Rattle.pack.specs.Reading.{job_of, file_of}
-use Rattle.pack.proofs.Sound.{JobSound}
+use Rattle.pack.proofs.Sound.{JobSound, HeaderSound, sound-sent}
+use Rattle.pack_writer.specs.Writing.{air_checked}
+use Rattle.pack_writer.proofs.Outcomes.{air-checks}
 use Rattle.pack_writer.proofs.Laying.{part_length}
 use Rattle.writer.specs.Write.{write_checked, Written, WriteOutcome, write_refused, write_done}
 
@@ -74,14 +73,12 @@ module _ (job : List ℕ) (h : Header) (file : Section) (sound : JobSound job h 
       let (_, same) = complete-works (cube-done-checked sh (length xs) v size) outcome in
       rw (same, ← laid) (one-code-cube r p sh v (held_data sh xs) (length-held_data sh xs) (held_data-lt sh xs bytes))
 
-  -- ---- the answer
+-- ---- the answer
 
-  pub fits-parts : (bytes output : ℕ) → both (eqb bytes h.sizes.bytes) (eqb output (pack_size h)) ≡ true
-      → (bytes ≡ h.shape.w * cells h.shape) × (output ≡ pack_size h)
-  unfolding sizes
-  fits-parts bytes output e =
-      let (p, q) = both-parts (eqb bytes h.sizes.bytes) (eqb output (pack_size h)) e in
-      (rw sound.header.measured at (eqb-true bytes h.sizes.bytes p), eqb-true output (pack_size h) q)
+refused-slices : (b : Bool) (f : Refusal) → refusal {A = Unit} f ≡ checked (check b 4 (passes tt)) → (b ≡ false) × (refusal {A = Unit} f ≡ refused 4)
+unfolding check checked
+refused-slices true f e = absurd (refusal-gives f tt e)
+refused-slices false f e = (refl, e)
 
 module _ (r : ℕ) (p xs out : List ℕ) where
   pub unread-job : (f : Refusal) → refusal {A = Header × Section} f ≡ checked (job_of p) → WriteOutcome r p xs out xs out (value_of (Err f))
@@ -90,13 +87,23 @@ module _ (r : ℕ) (p xs out : List ℕ) where
       let (n, failed, value) = checked-fails {B = Unit} (write_checked p (length xs) (length out)) f (then-refused (job_of p) _ f e) in
       rw value (write_refused n failed refl refl)
 
-  module _ (h : Header) (file : Section) (e : job_of p ≡ passes (h, file)) where
-    pub unfit-slices : both (eqb (length xs) h.sizes.bytes) (eqb (length out) (pack_size h)) ≡ false
-        → WriteOutcome r p xs out xs out (value_of (Err (Plain SliceLength)))
-    unfolding write_checked and_then check value_of refusal fault_number
-    unfit-slices t = write_refused 4 (rw (e, t)) refl refl
+  module _ (h : Header) (file : Section) (e : job_of p ≡ passes (h, file)) (sound : HeaderSound h) where
+    checks : (t : Bool) → both (eqb (length xs) (h.shape.w * cells h.shape)) (eqb (length out) (pack_size h)) ≡ t
+        → write_checked p (length xs) (length out) ≡ check t 4 (passes (h, file))
+    unfolding write_checked and_then sizes
+    checks t same =
+        let bytes : h.sizes.bytes ≡ h.shape.w * cells h.shape = rw sound.measured refl in
+        let told = ap (λ (k : ℕ). both (eqb (length xs) k) (eqb (length out) (pack_size h))) bytes ∙ same in
+        rw (e, told) refl
 
-    pub written-job : (xs' out' : List ℕ) → both (eqb (length xs) h.sizes.bytes) (eqb (length out) (pack_size h)) ≡ true
+    pub unfit-slices : (f : Refusal) → refusal {A = Unit} f ≡ checked (air_checked h (length xs) (length out))
+        → WriteOutcome r p xs out xs out (value_of (Err f))
+    unfolding check value_of
+    unfit-slices f told =
+        let (differ, four) = refused-slices _ f (told ∙ ap checked (air-checks h (length xs) (length out) (sound-sent h sound))) in
+        rw four (write_refused 4 (checks false differ) refl refl)
+
+    pub written-job : (xs' out' : List ℕ) → length xs ≡ h.shape.w * cells h.shape → length out ≡ pack_size h
         → Written r h (file_of p file) xs' out' → WriteOutcome r p xs out xs' out' (value_of (Ok tt))
-    unfolding write_checked and_then check value_of
-    written-job xs' out' t w = write_done h file (rw (e, t)) w
+    unfolding check value_of
+    written-job xs' out' cube pack w = write_done h file (checks true (both_true _ _ (eq-eqb _ _ cube) (eq-eqb _ _ pack))) w

@@ -12,4 +12,4 @@ overflow_add-n c =
 
 pub returns : goal.returns
 returns c =
-    file-laid _ _ _ c.requires.0 _ _ _ _ c.requires.1 (rw c.count_bytes-bytes.ensures at c.write_data.ensures) c.write_data-2.ensures c.set_data.ensures
+    file-laid _ _ _ c.requires.0 _ _ _ _ c.requires.1.size (rw c.count_bytes-bytes.ensures at c.write_data.ensures) c.write_data-2.ensures c.set_data.ensures

@@ -1,6 +1,6 @@
 -- `writer::write_pack` meets its contract. Assumes nothing.
 use Rattle.answer.proofs.Values.{value-passed, value-refused}
-use mathlib.Core.Path.{◌≡◌, sym, ◌∙◌}
+use mathlib.Core.Path.{◌≡◌, ◌∙◌}
 use Prim.Native.Nat.{ℕ, ◌*◌}
 use native.Mathlib.Omega.{arith}
 use lib.ListN.{length}
@@ -10,11 +10,11 @@ use Rattle.shape.specs.Shapes.{cells}
 use Rattle.pack.specs.Packs.{pack_size}
 use Rattle.pack.specs.Reading.{job_of}
 use Rattle.pack.proofs.Sound.{JobSound, sound-sent, job-sound}
-use Rattle.pack_writer.proofs.Outcomes.{air-wrote}
-use Rattle.writer.proofs.Outcomes.{file-encoded, fits-parts, unread-job, unfit-slices, written-job}
+use Rattle.pack_writer.proofs.Outcomes.{air-passed, air-wrote}
+use Rattle.writer.proofs.Outcomes.{file-encoded, unread-job, unfit-slices, written-job}
 use Rattle.std.proofs.lemmas.Result.{err_from_is_err_and}
 use Rattle.writer.proofs.write_pack.Goals as goal
-use Rattle.writer.proofs.write_pack.Goals.{Else-not-slices_fit, In_ok-h}
+use Rattle.writer.proofs.write_pack.Goals.{In_ok-slices_fit, In_ok-h}
 
 -- ---- the job that was read, and the lengths of the slices
 
@@ -25,22 +25,25 @@ sound : (c : In_ok-h) → JobSound c.args.job.now c.in_ok-h.h c.in_ok-h.file
 sound c = job-sound _ _ _ (read c)
 
 fits :
-    (c : Else-not-slices_fit) →
-    JobSound c.args.job.now c.in_ok-h.h c.in_ok-h.file →
+    (c : In_ok-slices_fit) →
     let h = c.in_ok-h.h in
     (length c.args.cube.now ≡ h.shape.w * cells h.shape) × (length c.args.output.now ≡ pack_size h)
-fits c s = fits-parts _ _ _ s _ _ (sym c.slices_fit.ensures ∙ c.if-not-slices_fit.false)
+fits c =
+    let (_, bytes, size) = air-passed _ _ _ (value-passed _ _ _ c.slices_fit.ensures c.in_ok-slices_fit.was) in
+    (bytes, size)
 
 -- ---- the needs
 
-pub slices_fit-requires : goal.slices_fit-requires
-slices_fit-requires c = sound-sent _ (sound (goal.at.slices_fit-requires c).In_ok-h).header
-
-pub returns-then-not-slices_fit : goal.returns-then-not-slices_fit
-returns-then-not-slices_fit c = unfit-slices _ _ _ _ _ _ (read (goal.at.returns-then-not-slices_fit c).In_ok-h) (sym c.slices_fit.ensures ∙ c.if-not-slices_fit.true)
+pub returns-in_err-slices_fit : goal.returns-in_err-slices_fit
+returns-in_err-slices_fit c =
+    let (f, is, same) = err_from_is_err_and c.from_residual-in_err-slices_fit.result c.from_residual-in_err-slices_fit.ensures.1 in
+    let job = (goal.at.returns-in_err-slices_fit c).In_ok-h in
+    rw (is, same) (unfit-slices _ _ _ _ _ _ (read job) (sound job).header _ (value-refused _ _ _ c.slices_fit.ensures c.in_err-slices_fit.was))
 
 pub lay_file-requires : goal.lay_file-requires
-lay_file-requires c = (sound (goal.at.lay_file-requires c).In_ok-h, (fits (goal.at.lay_file-requires c).Else-not-slices_fit (sound (goal.at.lay_file-requires c).In_ok-h)).0)
+lay_file-requires c =
+    let job = sound (goal.at.lay_file-requires c).In_ok-h in
+    (job, record { valid = job.header.valid; size = (fits (goal.at.lay_file-requires c).In_ok-slices_fit).0 })
 
 pub returns-in_err-h : goal.returns-in_err-h
 returns-in_err-h c =
@@ -49,10 +52,12 @@ returns-in_err-h c =
 
 pub returns : goal.returns
 returns c =
-    let cube = file-encoded _ _ _ (sound (goal.at.returns c).In_ok-h) _ _ _ primitive (c.lay_file.auto.cube ∙ (fits (goal.at.returns c).Else-not-slices_fit (sound (goal.at.returns c).In_ok-h)).0)
+    let job = sound (goal.at.returns c).In_ok-h in
+    let (bytes, size) = fits (goal.at.returns c).In_ok-slices_fit in
+    let cube = file-encoded _ _ _ job _ _ _ primitive (c.lay_file.auto.cube ∙ bytes)
     (λ (i : ℕ). omega (arith, c.slice_known-3-1.given i)) c.lay_file.ensures c.complete.ensures in
-    written-job _ _ _ _ _ _ (read (goal.at.returns c).In_ok-h) _ _ (sym c.slices_fit.ensures ∙ c.if-not-slices_fit.false)
+    written-job _ _ _ _ _ _ (read (goal.at.returns c).In_ok-h) job.header _ _ bytes size
     (record {
       cube = cube;
-      pack = air-wrote _ _ _ _ _ c.write_air.ensures (sound-sent _ (sound (goal.at.returns c).In_ok-h).header) cube.code.size (fits (goal.at.returns c).Else-not-slices_fit (sound (goal.at.returns c).In_ok-h)).1;
+      pack = air-wrote _ _ _ _ _ c.write_air.ensures (sound-sent _ job.header) cube.code.size size;
     })
