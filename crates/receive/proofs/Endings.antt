@@ -1,17 +1,12 @@
 -- How an input ends: from the receiver's answer to the outcome that is printed, and the memory that the outcome needs.
-use Rattle.std.specs.Prelude.{Result, Err}
-use Rattle.std.proofs.Props.{props}
+use Rattle.std.specs.Prelude.{Result, Ok, Err}
 use mathlib.Core.Path.{◌≡◌, refl, ap, ◌∙◌}
-use mathlib.Core.Bool.{Bool, true, false, cond}
-use mathlib.Core.List.{List, ◌++◌}
-use mathlib.Core.Logic.{∥∥₁_elim}
+use mathlib.Core.List.{List, ◌++◌, append-nil}
 use Prim.Native.Nat.{ℕ, ◌-◌, ◌*◌, ◌≤◌, ◌<◌}
 use native.Mathlib.Nat.{one-mul, mul-le-mul_right}
-use native.Mathlib.Bridge.{le_prop}
 use native.Mathlib.Omega.{arith}
-use lib.Dec.{eqb}
 use lib.ListN.{length, take, drop}
-use lib.Seq.{take_at, length-take-le}
+use lib.Seq.{take_at, length-take-le, get_or-take}
 use Rattle.field.specs.Field.{reduction}
 use Rattle.answer.specs.declared.Refusal.{Refusal}
 use Rattle.answer.specs.declared.Refusal.TheVariants.{Plain, Packet, Line, Entry}
@@ -37,8 +32,9 @@ use Rattle.receive.specs.declared.receiving.Report.{Report}
 use Rattle.receive.specs.declared.receiving.Outcome.{Outcome}
 use Rattle.receive.specs.declared.receiving.Outcome.TheVariants.{TooBig, Refused, Came}
 use Rattle.receive.specs.Outcomes.{ended, InputOutcome, input_too_big, input_refused, cube_too_big, received}
-use Rattle.receive.specs.Printed.{texts}
-use Rattle.receive.specs.Inner.Pieces.{Room, Fits}
+use Rattle.printing.specs.Text.{ascii, number_line}
+use Rattle.receive.specs.Printed.{head_lines, file_line, opening_lines, byte_text, texts, came_texts}
+use Rattle.receive.specs.Inner.Memory.{Fits}
 
 -- ---- the three endings
 
@@ -55,16 +51,15 @@ module _ (sh : Shape) where
   unfolding received_value
   ended-refused a f n q m = rw q (ap Refused m ∙ ended-number sh (received_counts (Err f)) f)
 
-  module _ (k : Counts) (e : Ending) where
-    pub ended-left : (n : ℕ) → e ≡ Left n
-        → Came (record { shape = sh; packets = k.packets; repeats = k.repeats; left = n; length = 0 }) ≡ ended sh k (gives (reception_of e))
-    unfolding reception_of ended
-    ended-left n q = rw q
+  ended-as : (k : Counts) (e : Ending) → Came (record { shape = sh; received = record { ending = e; counts = k } }) ≡ ended sh k (gives (reception_of e))
+  unfolding reception_of ended
+  ended-as k (File n) = refl
+  ended-as k (Left n) = refl
 
-    pub ended-file : (n : ℕ) → e ≡ File n
-        → Came (record { shape = sh; packets = k.packets; repeats = k.repeats; left = 0; length = n }) ≡ ended sh k (gives (reception_of e))
-    unfolding reception_of ended
-    ended-file n q = rw q
+  pub ended-came : (a : Result Received Refusal) (q : Received) → a ≡ Ok q
+      → Came (record { shape = sh; received = q }) ≡ ended sh (received_counts a) (received_value a)
+  unfolding received_value received_counts
+  ended-came a q e = rw e (ended-as q.counts q.ending)
 
 -- ---- the parts of memory that are lent
 
@@ -132,42 +127,52 @@ file-le {p} {m} (opened h s _ checks _ _ (held f fits _ _)) n q =
     let e : length f ≡ n = cc in
     omega (arith, (accepted-ready p m h s checks).buffer_size)
 
+came-injective : {r q : Report} → Came r ≡ Came q → r ≡ q
+came-injective e = cc
+
 ended-fits : (sh : Shape) (k : Counts) (v : Value Reception) → Valid sh → cells sh ≤ 65536 → ((n : ℕ) → v ≡ gives (file n) → n ≤ 65536) → Fits (ended sh k v)
-unfolding Fits ended
-ended-fits sh k (refused n) v c l = tt
-ended-fits sh k (refused_at n i) v c l = tt
-ended-fits sh k (gives (left n)) v c l = record { valid = v; cells_fit = c; file_fits = omega arith }
-ended-fits sh k (gives (file n)) v c l = record { valid = v; cells_fit = c; file_fits = l n refl }
+unfolding ended texts came_texts
+ended-fits sh k (refused n) v c l r e = let z : ◌≡◌ {A = ℕ} 0 1 = cc in absurd (omega arith)
+ended-fits sh k (refused_at n i) v c l r e = let z : ◌≡◌ {A = ℕ} 0 1 = cc in absurd (omega arith)
+ended-fits sh k (gives (left n)) v c l r e = rw (← came-injective e) (record { valid = v; texts_fit = c })
+ended-fits sh k (gives (file n)) v c l r e = rw (← came-injective e) (record { valid = v; texts_fit = l n refl })
 
 pub outcome_fits : (p fs bs : List ℕ) {o : Outcome} → InputOutcome p fs bs o → Fits o
-unfolding Fits
-outcome_fits p fs bs (input_too_big _) = tt
-outcome_fits p fs bs (input_refused _ _ _) = tt
-outcome_fits p fs bs (cube_too_big _ _ _ _ _) = tt
-outcome_fits p fs bs (received h s short air small xs₀ fs₀ bs₀ xs _ _ b v k outcome) =
+outcome_fits p fs bs (input_too_big _) r e = let z : ◌≡◌ {A = ℕ} 0 1 = cc in absurd (omega arith)
+outcome_fits p fs bs (input_refused _ _ _) r e = let z : ◌≡◌ {A = ℕ} 0 1 = cc in absurd (omega arith)
+outcome_fits p fs bs (cube_too_big _ _ _ _ _) r e = let z : ◌≡◌ {A = ℕ} 0 1 = cc in absurd (omega arith)
+outcome_fits p fs bs (received h s short air small xs₀ fs₀ bs₀ xs _ _ b v k outcome) r e =
     let ok = (air-sound p h s air).header.valid in
     let c = cells-le-cube h.shape ok in
     let l = capacity-le-cube h.shape in
     ended-fits h.shape k v ok (omega arith)
-    (λ (n : ℕ) (q : v ≡ gives (file n)). let m = file-le outcome n q in omega (arith, b))
+    (λ (n : ℕ) (q : v ≡ gives (file n)). let m = file-le outcome n q in omega (arith, b)) r e
 
--- a text holds only that there is a proof of `Fits`: what is drawn from it has one proof at most
-Room-prop : (r : Report) → IsProp (Room r)
-Room-prop r = hlevel props
+pub texts-fit : (o : Outcome) → Fits o → texts o ≤ 65536
+unfolding texts
+texts-fit TooBig f = omega arith
+texts-fit (Refused _) f = omega arith
+texts-fit (Came r) f = (f r refl).texts_fit
 
-pub came-room : (o : Outcome) (r : Report) → o ≡ Came r → ∥ Fits o ∥₁ → Room r
-unfolding Fits
-came-room o r e f = ∥∥₁_elim f (Room-prop r) (λ x. rw e at x)
+-- ---- the lines and the texts of a file, and of the cells
 
-texts_le : (o : Outcome) → Fits o → texts o ≤ 65536
-unfolding Fits texts
-texts_le TooBig f = omega arith
-texts_le (Refused _) f = omega arith
-texts_le (Came r) f = both (eqb r.left 0)
-  where
-    both : (b : Bool) → cond b r.length (cells r.shape) ≤ 65536
-    both true = f.file_fits
-    both false = f.cells_fit
+pub file-opening : (r : Report) (n : ℕ) → r.received.ending ≡ File n → opening_lines (Came r) ≡ head_lines r ++ number_line (ascii "file ") n
+unfolding opening_lines file_line
+file-opening r n e = ap (λ (x : Ending). head_lines r ++ file_line x) e
 
-pub texts-fit : (o : Outcome) → ∥ Fits o ∥₁ → texts o ≤ 65536
-texts-fit o f = ∥∥₁_elim f le_prop (texts_le o)
+pub left-opening : (r : Report) (n : ℕ) → r.received.ending ≡ Left n → opening_lines (Came r) ≡ head_lines r
+unfolding opening_lines file_line
+left-opening r n e = ap (λ (x : Ending). head_lines r ++ file_line x) e ∙ append-nil (head_lines r)
+
+pub file-texts : (o : Outcome) (r : Report) → o ≡ Came r → (n : ℕ) → r.received.ending ≡ File n → texts o ≡ n
+unfolding texts came_texts
+file-texts o r e n q = rw (e, q)
+
+pub left-texts : (o : Outcome) (r : Report) → o ≡ Came r → (n : ℕ) → r.received.ending ≡ Left n → texts o ≡ cells r.shape
+unfolding texts came_texts
+left-texts o r e n q = rw (e, q)
+
+-- a byte stands in the file as in the memory that the file begins
+pub byte-taken : (bs : List ℕ) (n i : ℕ) → n ≤ length bs → i < n → byte_text (take n bs) (length (take n bs)) i ≡ byte_text bs n i
+unfolding byte_text
+byte-taken bs n i l m = rw (get_or-take n bs i 0 m, length-take-le n bs l)

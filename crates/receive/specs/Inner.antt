@@ -1,2 +1,2 @@
 -- What only the program's own functions need, one file a module.
-pub mod Pieces
+pub mod Memory

@@ -8,6 +8,7 @@ use Rattle.pack.specs.declared.Header.{Header}
 use Rattle.pack.specs.declared.Section.{Section}
 use Rattle.pack.specs.Reading.{air_of}
 use Rattle.receiver.specs.declared.Counts.{Counts}
+use Rattle.receiver.specs.declared.Ending.TheVariants.{File, Left}
 use Rattle.receiver.specs.Gathering.{Reception, file, left}
 use Rattle.receiver.specs.Receive.{lent, ReceiveOutcome}
 use Rattle.receive.specs.declared.receiving.Outcome.{Outcome}
@@ -15,8 +16,8 @@ use Rattle.receive.specs.declared.receiving.Outcome.TheVariants.{TooBig, Refused
 
 -- how a pack ended, as an outcome: of a refusal only the number is printed
 unfoldable pub ended : Shape → Counts → Value Reception → Outcome
-ended sh k (gives (file n)) = Came (record { shape = sh; packets = k.packets; repeats = k.repeats; left = 0; length = n })
-ended sh k (gives (left n)) = Came (record { shape = sh; packets = k.packets; repeats = k.repeats; left = n; length = 0 })
+ended sh k (gives (file n)) = Came (record { shape = sh; received = record { ending = File n; counts = k } })
+ended sh k (gives (left n)) = Came (record { shape = sh; received = record { ending = Left n; counts = k } })
 ended sh k (refused n) = Refused n
 ended sh k (refused_at n i) = Refused n
 

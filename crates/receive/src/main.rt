@@ -4,14 +4,13 @@
 mod pieces;
 mod receiving;
 
-ghost use Rattle.std.specs.Prelude.{◌≡◌, length, OnOk};
+ghost use Rattle.std.specs.Prelude.{OnOk};
 ghost use Rattle.std.specs.Io.KnownBytes.{Appends};
 ghost use Rattle.receive.specs.Printed.{printed};
 ghost use Rattle.receive.specs.Writes.{Writes};
-ghost use Rattle.receive.specs.Inner.Pieces.{Fits};
+ghost use Rattle.receive.specs.Inner.Memory.{IsMemory};
 
 use crate::pieces::Text;
-use crate::receiving::Outcome;
 use printing::LIMIT;
 use std::alloc::Global;
 use std::io;
@@ -21,7 +20,9 @@ fn main(rt: HostRuntime) -> io::Result<()> {
     run(rt.alloc(), rt.stdin(), &mut rt.stdout())
 }
 
-// Reads an input, receives it and writes its text. One byte more than an input may have is read, so that a longer one is told.
+// Reads an input, receives it and writes its text. One byte more than an input may have is read, so that a longer one is told. Contracts say that a
+// buffer is LIMIT bytes long (`IsMemory`), since a Vec's slice becomes an array only by a call that may refuse. The program `write` reads in the same
+// two lines; what each lends and prints differs. `as`: there is no From of usize for u64.
 fn run<R: Read + Drop, W: Write>(alloc: Global, from: R, to: &mut W) -> io::Result<()>
     ensures { OnOk result (Writes (R.remaining from) (W.contents to.old) (W.contents to.new)) }
 {
@@ -34,25 +35,19 @@ fn run<R: Read + Drop, W: Write>(alloc: Global, from: R, to: &mut W) -> io::Resu
     let flags = flag_bytes.as_mut_slice();
     let file = file_bytes.as_mut_slice();
     let outcome = receiving::receive(&input, &mut cube, flags, file);
-    write_pieces(to, &mut out, flags, file, outcome)
-}
-
-// Writes the text of an outcome: its pieces, in their order. Here alone is asked what a `Text` holds of its memory.
-fn write_pieces<W: Write>(
-    to: &mut W,
-    out: &mut [u8],
-    flags: &[u8],
-    file: &[u8],
-    outcome: Outcome,
-) -> io::Result<()>
-    requires { (length out.old ≡ 65536) × (length flags.now ≡ 65536) × (length file.now ≡ 65536) × Fits outcome }
-    ensures { OnOk result (Appends (W.contents to.old) (W.contents to.new) (printed flags.now file.now outcome)) }
-{
     let text = Text {
         flags,
         file,
         outcome,
     };
+    write_pieces(to, &mut out, text)
+}
+
+// Writes a text: its pieces, in their order.
+fn write_pieces<W: Write>(to: &mut W, out: &mut [u8], text: Text) -> io::Result<()>
+    requires { IsMemory out.old }
+    ensures { OnOk result (Appends (W.contents to.old) (W.contents to.new) (printed text.entry.flags.now text.entry.file.now text.entry.outcome)) }
+{
     for k in 0..text.count() {
         let end = text.piece(out, k);
         to.write_all(&out[..end])?;

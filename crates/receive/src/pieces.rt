@@ -1,25 +1,25 @@
 // The text of an outcome in pieces: its opening lines, then runs of the file's bytes or of the holes.
 ghost use Rattle.std.specs.Prelude.{◌≡◌, ◌-◌, ◌≤◌, ◌<◌, min, length, take};
-ghost use Rattle.shape.specs.Shapes.{Valid};
+ghost use Rattle.shape.specs.Shapes.{Valid, cells};
 ghost use Rattle.io.specs.Counts.{IsPrefixLen};
 ghost use Rattle.printing.specs.Append.{Appended};
-ghost use Rattle.receive.specs.Printed.{hole_line, head_lines, opening_lines, byte_text, hole_text, joined, texts, text_of};
+ghost use Rattle.receive.specs.Printed.{cells_left, hole_line, head_lines, opening_lines, byte_text, hole_text, joined, texts, text_of};
 ghost use Rattle.receive.specs.Pieces.{piece, pieces};
-ghost use Rattle.receive.specs.Inner.Pieces.{Fits};
+ghost use Rattle.receive.specs.Inner.Memory.{IsMemory, Fits};
 
 use crate::receiving::{Outcome, Report};
-use shape::Shape;
+use receiver::{Ending, Received};
+use shape::{Shape, flags};
 
 // An outcome that is printed, with the memory that its bytes and its holes are read from.
-// `Fits` goes by cases, so that a ghost field holds it truncated.
 #[derive(Clone, Copy)]
 pub(crate) struct Text<'a> {
     pub(crate) flags: &'a [u8],
     pub(crate) file: &'a [u8],
     pub(crate) outcome: Outcome,
-    ghost flags_whole: { length flags.now ≡ 65536 },
-    ghost file_whole: { length file.now ≡ 65536 },
-    ghost fits: { ∥ Fits outcome ∥₁ },
+    ghost flags_whole: { IsMemory flags.now },
+    ghost file_whole: { IsMemory file.now },
+    ghost fits: { Fits outcome },
 }
 
 impl Text<'_> {
@@ -27,12 +27,12 @@ impl Text<'_> {
     pub(crate) fn count(&self) -> usize
         ensures { result ≡ pieces self.now.outcome }
     {
-        1 + (self.texts() + 511) / 512
+        1 + self.texts().div_ceil(512)
     }
 
     // Puts piece k at the start of `out`, and answers where it ends.
     pub(crate) fn piece(&self, out: &mut [u8], k: usize) -> usize
-        requires { (length out.old ≡ 65536) × (k < pieces self.now.outcome) }
+        requires { IsMemory out.old × (k < pieces self.now.outcome) }
         ensures prefix_len { IsPrefixLen result out.new }
         ensures out_after { take result out.new ≡ piece self.now.flags.now self.now.file.now self.now.outcome k }
     {
@@ -44,7 +44,7 @@ impl Text<'_> {
 
     // The texts from one on, 512 or as many as there are.
     fn run(&self, out: &mut [u8], from: usize) -> usize
-        requires { (length out.old ≡ 65536) × (from < texts self.now.outcome) }
+        requires { IsMemory out.old × (from < texts self.now.outcome) }
         ensures prefix_len { IsPrefixLen result out.new }
         ensures out_after { take result out.new ≡
             joined (text_of self.now.flags.now self.now.file.now self.now.outcome) from (min 512 (texts self.now.outcome - from)) }
@@ -57,17 +57,16 @@ impl Text<'_> {
         at
     }
 
-    // How many texts stand behind the opening lines: one a byte of the file where no cell is left, else one a cell.
+    // How many texts stand behind the opening lines: one a byte of the file, or one a cell where cells are left.
     fn texts(&self) -> usize
         ensures { result ≡ texts self.now.outcome }
     {
         match self.outcome {
             Outcome::TooBig | Outcome::Refused(_) => 0,
-            Outcome::Came(report) if report.left == 0 => report.length,
-            Outcome::Came(report) => {
-                let sh = report.shape;
-                sh.l1 * sh.l2 * sh.l3
-            }
+            Outcome::Came(report) => match report.received.ending {
+                Ending::File(n) => n,
+                Ending::Left(_) => cells(report.shape),
+            },
         }
     }
 
@@ -78,17 +77,17 @@ impl Text<'_> {
     {
         match self.outcome {
             Outcome::TooBig | Outcome::Refused(_) => at,
-            Outcome::Came(report) if report.left == 0 => {
-                append_byte(out, at, self.file, report.length, i)
-            }
-            Outcome::Came(report) => append_cell(out, at, self.flags, report.shape, i),
+            Outcome::Came(report) => match report.received.ending {
+                Ending::File(n) => append_byte(out, at, &self.file[..n], i),
+                Ending::Left(_) => append_cell(out, at, self.flags, report.shape, i),
+            },
         }
     }
 }
 
 // The lines that stand before the bytes or the holes.
 fn opening(out: &mut [u8], outcome: Outcome) -> usize
-    requires { length out.old ≡ 65536 }
+    requires { IsMemory out.old }
     ensures prefix_len { IsPrefixLen result out.new }
     ensures out_after { take result out.new ≡ opening_lines outcome }
 {
@@ -99,18 +98,27 @@ fn opening(out: &mut [u8], outcome: Outcome) -> usize
     }
 }
 
-// The first lines, and the file's length where no cell is left.
+// The cells of a shape. Its sizes would be measured anew for it, by a call that may refuse.
+#[tactic(auto, unfolding(shape::specs::Shapes::cells))]
+fn cells(sh: Shape) -> usize
+    requires { Valid sh }
+    ensures { result ≡ cells sh }
+{
+    sh.l1 * sh.l2 * sh.l3
+}
+
+// The first lines, and the file's length where there is one.
 fn append_report(out: &mut [u8], report: Report) -> usize
     ensures { Appended out.old 0 (opening_lines (Outcome.Came report)) out.new result }
 {
     let behind = append_head(out, report);
-    if report.left == 0 {
-        return printing::append_line(out, behind, b"file ", report.length as u64);
+    match report.received.ending {
+        Ending::File(n) => printing::append_line(out, behind, b"file ", n as u64),
+        Ending::Left(_) => behind,
     }
-    behind
 }
 
-// Shape, packets, repeats and cells left, a line each.
+// Shape, packets, repeats and cells left, a line each. The line of a shape takes four numbers, since `printing` stands on `io` alone.
 fn append_head(out: &mut [u8], report: Report) -> usize
     ensures { Appended out.old 0 (head_lines report) out.new result }
 {
@@ -123,18 +131,30 @@ fn append_head(out: &mut [u8], report: Report) -> usize
         sh.l3 as u64,
         sh.w as u64,
     );
-    let packets = printing::append_line(out, shape, b"packets ", report.packets as u64);
-    let repeats = printing::append_line(out, packets, b"repeats ", report.repeats as u64);
-    printing::append_line(out, repeats, b"left ", report.left as u64)
+    let Received { counts, ending } = report.received;
+    let packets = printing::append_line(out, shape, b"packets ", counts.packets as u64);
+    let repeats = printing::append_line(out, packets, b"repeats ", counts.repeats as u64);
+    printing::append_line(out, repeats, b"left ", cells_left(ending) as u64)
 }
 
-// Byte i of a file of n bytes, and what stands behind it.
-fn append_byte(out: &mut [u8], at: usize, file: &[u8], n: usize, i: usize) -> usize
+// The cells left; none where a file came out.
+#[tactic(auto, unfolding(crate::specs::Printed::cells_left))]
+fn cells_left(ending: Ending) -> usize
+    ensures { result ≡ cells_left ending }
+{
+    match ending {
+        Ending::File(_) => 0,
+        Ending::Left(n) => n,
+    }
+}
+
+// Byte i of a file, and what stands behind it.
+fn append_byte(out: &mut [u8], at: usize, file: &[u8], i: usize) -> usize
     requires { i < length file.now }
-    ensures { Appended out.old at (byte_text file.now n i) out.new result }
+    ensures { Appended out.old at (byte_text file.now (length file.now) i) out.new result }
 {
     let behind = printing::append_hex(out, at, file[i]);
-    printing::append(out, behind, &[separator(n, i)])
+    printing::append(out, behind, &[separator(file.len(), i)])
 }
 
 // A newline ends a line of 16 bytes, and the last line.
@@ -154,7 +174,7 @@ fn append_cell(out: &mut [u8], at: usize, flags: &[u8], sh: Shape, m: usize) -> 
     requires { (m < length flags.now) × Valid sh × (at ≤ length out.old) }
     ensures { Appended out.old at (hole_text sh flags.now m) out.new result }
 {
-    if flags[m] == 1 {
+    if flags[m] == flags::MISSING {
         append_hole(out, at, sh, m)
     } else {
         at

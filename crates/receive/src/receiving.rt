@@ -1,25 +1,23 @@
 // Receiving an input: what there is to print of it.
 ghost use Rattle.std.specs.Prelude.{◌≡◌, ◌≤◌, length};
-ghost use Rattle.answer.specs.Values.{gives, passes};
+ghost use Rattle.answer.specs.Values.{passes};
 ghost use Rattle.pack.specs.declared.Section.{Section};
 ghost use Rattle.pack.specs.Reading.{air_of};
-ghost use Rattle.receiver.specs.Receive.{reception_of, received_value, received_counts};
+ghost use Rattle.receiver.specs.Receive.{received_value, received_counts};
 ghost use Rattle.receive.specs.Outcomes.{ended, InputOutcome};
+ghost use Rattle.receive.specs.Inner.Memory.{IsMemory};
 
 use answer::Refusal;
 use pack::{Header, Section};
 use printing::LIMIT;
-use receiver::{Ending, Received};
+use receiver::Received;
 use shape::Shape;
 
-// What came of a pack that was received: the cells left, and the bytes of the file where none is left.
+// What came of a pack that was not refused.
 #[derive(Clone, Copy)]
 pub(crate) struct Report {
     pub(crate) shape: Shape,
-    pub(crate) packets: usize,
-    pub(crate) repeats: usize,
-    pub(crate) left: usize,
-    pub(crate) length: usize,
+    pub(crate) received: Received,
 }
 
 // What there is to print: a refusal by its number, which is all that `ended` has of a refused pack.
@@ -30,9 +28,9 @@ pub(crate) enum Outcome {
     Came(Report),
 }
 
-// Receives an input. A file of it begins `file`, and a cell that is left has 1 in `flags`.
+// Receives an input. A file of it begins `file`, and a cell that is left is MISSING in `flags`.
 pub(crate) fn receive(air: &[u8], cube: &mut [u8], flags: &mut [u8], file: &mut [u8]) -> Outcome
-    requires { (length cube.old ≡ 65536) × (length flags.old ≡ 65536) × (length file.old ≡ 65536) }
+    requires { IsMemory cube.old × IsMemory flags.old × IsMemory file.old }
     ensures { InputOutcome air.now flags.new file.new result }
 {
     if air.len() > LIMIT {
@@ -46,8 +44,7 @@ pub(crate) fn receive(air: &[u8], cube: &mut [u8], flags: &mut [u8], file: &mut 
 
 // Receives a pack that passes the checks down to 8, in memory of the exact lengths.
 fn take(air: &[u8], cube: &mut [u8], flags: &mut [u8], file: &mut [u8], h: Header) -> Outcome
-    requires { (length cube.old ≡ 65536) × (length flags.old ≡ 65536) × (length file.old ≡ 65536)
-        × (length air.now ≤ 65536) × ((s : Section) × (air_of air.now ≡ passes (h, s))) }
+    requires { IsMemory cube.old × IsMemory flags.old × IsMemory file.old × (length air.now ≤ 65536) × ((s : Section) × (air_of air.now ≡ passes (h, s))) }
     ensures { InputOutcome air.now flags.new file.new result }
 {
     let z = h.sizes;
@@ -72,24 +69,9 @@ fn outcome_of(sh: Shape, received: Result<Received, Refusal>) -> Outcome
 {
     match received {
         Err(f) => Outcome::Refused(answer::number(f)),
-        Ok(came) => came_of(sh, came),
+        Ok(received) => Outcome::Came(Report {
+            shape: sh,
+            received,
+        }),
     }
-}
-
-// What there is to print of a pack that is not refused.
-fn came_of(sh: Shape, came: Received) -> Outcome
-    ensures { result ≡ ended sh came.counts (gives (reception_of came.ending)) }
-{
-    let (left, length) = match came.ending {
-        Ending::Left(left) => (left, 0),
-        Ending::File(length) => (0, length),
-    };
-    let counts = came.counts;
-    Outcome::Came(Report {
-        shape: sh,
-        packets: counts.packets,
-        repeats: counts.repeats,
-        left,
-        length,
-    })
 }

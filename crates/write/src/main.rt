@@ -19,7 +19,8 @@ fn main(rt: HostRuntime) -> io::Result<()> {
     run(rt.alloc(), rt.stdin(), &mut rt.stdout())
 }
 
-// Reads an input and writes what the program prints for it. One byte more than an input may have is read, so that a longer one is told.
+// Reads an input and writes what the program prints for it. One byte more than an input may have is read, so that a longer one is told. The program
+// `receive` reads in the same two lines; what each lends and prints differs. `as`: there is no From of usize for u64.
 fn run<R: Read + Drop, W: Write>(alloc: Global, from: R, to: &mut W) -> io::Result<()>
     ensures { OnOk result (Writes (R.remaining from) (W.contents to.old) (W.contents to.new)) }
 {

@@ -5,12 +5,15 @@ use Rattle.receive.proofs.Writing.{text-written}
 use Rattle.receive.proofs.run.Goals as goal
 
 pub write_pieces-requires : goal.write_pieces-requires
-write_pieces-requires g c = (
-  c.deref_mut-2.ensures.len ∙ c.in_ok-out.ensures.len,
-  c.receive-outcome.auto.flags ∙ c.as_mut_slice-flags.ensures.len ∙ c.in_ok-flag_bytes.ensures.len,
-  c.receive-outcome.auto.file ∙ c.as_mut_slice-file.ensures.len ∙ c.in_ok-file_bytes.ensures.len,
-  outcome_fits _ _ _ c.receive-outcome.ensures,
-)
+write_pieces-requires g c = c.deref_mut-2.ensures.len ∙ c.in_ok-out.ensures.len
+
+pub invariant_of-text : goal.invariant_of-text
+invariant_of-text g c =
+    record {
+      flags_whole = c.receive-outcome.auto.flags ∙ c.as_mut_slice-flags.ensures.len ∙ c.in_ok-flag_bytes.ensures.len;
+      file_whole = c.receive-outcome.auto.file ∙ c.as_mut_slice-file.ensures.len ∙ c.in_ok-file_bytes.ensures.len;
+      fits = outcome_fits _ _ _ c.receive-outcome.ensures;
+    }
 
 pub returns : goal.returns
 returns g c =

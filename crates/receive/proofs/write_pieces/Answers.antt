@@ -5,7 +5,7 @@ use Rattle.receive.proofs.Writing.{appends_none, appends_more, appends-printed}
 use Rattle.receive.proofs.write_pieces.Goals as goal
 
 pub loop-k-init : goal.loop-k-init
-loop-k-init g c = (c.requires.0, appends_none _ _ _ _)
+loop-k-init g c = (c.requires, appends_none _ _ _ _)
 
 pub piece-end-requires : goal.piece-end-requires
 piece-end-requires g c =
@@ -20,5 +20,5 @@ loop-k-preserved g c = (
 
 pub returns : goal.returns
 returns g c =
-    let e : c.loop-k.k ≡ pieces c.args.outcome = let n = c.count-k-end.ensures in omega arith in
+    let e : c.loop-k.k ≡ pieces c.args.text.outcome = let n = c.count-k-end.ensures in omega arith in
     appends-printed _ _ _ _ _ _ e c.loop-k.invariant.1

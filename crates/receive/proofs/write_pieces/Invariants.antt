@@ -7,4 +7,4 @@ use Rattle.receive.proofs.write_pieces.Given as goal
 
 abbrev pub invariant-loop-k : goal.invariant-loop-k
 invariant-loop-k g l = (length l.out ≡ 65536)
-    × Appends (g.W.Write.contents l.initial.to) (g.W.Write.contents l.to) (joined (piece l.flags l.file l.fn.outcome) 0 l.k)
+    × Appends (g.W.Write.contents l.initial.to) (g.W.Write.contents l.to) (joined (piece l.fn.text.flags.now l.fn.text.file.now l.fn.text.outcome) 0 l.k)

@@ -8,4 +8,4 @@ unfolding head_lines
 returns c =
     append-append _ _ _ _ _ _ _ _ c.append_shape-shape.ensures
     (append-append _ _ _ _ _ _ _ _ c.append_line-packets.ensures
-    (append-append _ _ _ _ _ _ _ _ c.append_line-repeats.ensures c.append_line.ensures))
+    (append-append _ _ _ _ _ _ _ _ c.append_line-repeats.ensures (rw c.cells_left.ensures at c.append_line.ensures)))

@@ -1,22 +1,31 @@
 -- `receive::pieces::Text::append_text` meets its contract. Assumes nothing.
-use mathlib.Core.Path.{◌≡◌}
 use native.Mathlib.Omega.{arith}
+use mathlib.Core.Path.{sym}
+use lib.Seq.{length-take-le}
 use mathlib.Core.Logic.{inl, inr}
-use borrow.Author.Tests.{eq-eqb, ne_eqb}
 use Rattle.printing.proofs.Appending.{append-nothing}
-use Rattle.receive.specs.Printed.{text_of}
-use Rattle.receive.proofs.Endings.{came-room, texts-fit}
+use Rattle.receive.specs.Printed.{came_text, text_of}
+use Rattle.receive.proofs.Endings.{file-texts, left-texts, byte-taken, texts-fit}
 use Rattle.receive.proofs.pieces.Text.append_text.Goals as goal
+
+pub slice_bounds-append_byte-end : goal.slice_bounds-append_byte-end
+slice_bounds-append_byte-end c =
+    let a = c.args.self.now in
+    sym (length-take-le _ _ (omega (arith, file-texts _ _ c.in-Came.is _ c.in-File.is, texts-fit _ a.fits, a.file_whole)))
 
 pub append_byte-requires : goal.append_byte-requires
 append_byte-requires c =
     let a = c.args.self.now in
-    omega (arith, texts-fit _ a.fits, a.file_whole, c.requires.1)
+    let n = file-texts _ _ c.in-Came.is _ c.in-File.is in
+    rw (length-take-le c.in-File.n a.file.now (omega (arith, n, texts-fit _ a.fits, a.file_whole))) (omega (arith, n, c.requires.1))
 
 pub append_cell-requires : goal.append_cell-requires
 append_cell-requires c =
-    let a = c.args.self.now in
-    (omega (arith, texts-fit _ a.fits, a.flags_whole, c.requires.1), (came-room _ _ c.in-Came-2.is a.fits).valid, c.requires.0)
+    let a = c.args.self.now in (
+      omega (arith, left-texts _ _ c.in-Came.is _ c.in-Left.is, texts-fit _ a.fits, a.flags_whole, c.requires.1),
+      (a.fits _ c.in-Came.is).valid,
+      c.requires.0,
+    )
 
 pub returns-in-TooBig : goal.returns-in-TooBig
 unfolding text_of
@@ -24,13 +33,14 @@ returns-in-TooBig c =
     let same = append-nothing c.args.out.now c.args.at c.requires.0 in
     elim c.in-TooBig.is [ inl e ↦ rw e same | inr w ↦ rw w.1 same ]
 
-pub returns-in-Came : goal.returns-in-Came
-unfolding text_of
-returns-in-Came c =
-    rw (c.in-Came.is, eq-eqb _ _ c.if-report-eq0.true) c.append_byte.ensures
+pub returns-in-File : goal.returns-in-File
+unfolding text_of came_text
+returns-in-File c =
+    let a = c.args.self.now in
+    let n = file-texts _ _ c.in-Came.is _ c.in-File.is in
+    rw (c.in-Came.is, c.in-File.is)
+    (rw (byte-taken a.file.now c.in-File.n c.args.i (omega (arith, n, texts-fit _ a.fits, a.file_whole)) (omega (arith, n, c.requires.1))) at c.append_byte.ensures)
 
-pub returns-in-Came-2 : goal.returns-in-Came-2
-unfolding text_of
-returns-in-Came-2 c =
-    let same : c.in-Came.report ≡ c.in-Came-2.report = cc in
-    rw (c.in-Came-2.is, ne_eqb _ _ (rw same at c.if-report-eq0.false)) c.append_cell.ensures
+pub returns-in-Left : goal.returns-in-Left
+unfolding text_of came_text
+returns-in-Left c = rw (c.in-Came.is, c.in-Left.is) c.append_cell.ensures
