@@ -98,17 +98,13 @@ fn pair(text: &[u8], at: usize) -> bool
 
 // The kind of a character: 0 for a hexadecimal digit in lower case, 1 for a space, 2 for any other. The kinds are numbers and no enum, since
 // `pairs` joins them by xor and or: so many characters are compared at once.
+#[tactic(auto, unfolding(crate::specs::Inner::Lines::char_kind))]
 fn kind(c: u8) -> u8
     ensures { result ≡ char_kind c }
 {
-    if c < 48 {
-        return if c == 32 { 1 } else { 2 };
+    match c {
+        b'0'..=b'9' | b'a'..=b'f' => 0,
+        b' ' => 1,
+        _ => 2,
     }
-    if c < 58 {
-        return 0;
-    }
-    if c < 97 {
-        return 2;
-    }
-    if c < 103 { 0 } else { 2 }
 }

@@ -26,9 +26,7 @@ pub(crate) struct Contents {
 pub(crate) fn scan(text: &[u8]) -> Result<Contents, Refusal>
     ensures { ScanOutcome text.now result }
 {
-    let Some((sh, lines)) = shape_line(text) else {
-        return Err(Refusal::Line(1));
-    };
+    let (sh, lines) = shape_line(text).ok_or(Refusal::Line(1))?;
     scan_packets(text, sh, lines)
 }
 
@@ -42,12 +40,11 @@ fn scan_packets(text: &[u8], sh: Shape, lines: usize) -> Result<Contents, Refusa
     let mut inside: usize = 0;
     // No index is counted: a line's end is where the next begins.
     while at < text.len() {
+        let broken = Refusal::Line(line_of(n));
         if n == MOST {
-            return Err(Refusal::Line(line_of(n)));
+            return Err(broken);
         }
-        let Some((a, b, c, end)) = packet_line(text, at, sh.w) else {
-            return Err(Refusal::Line(line_of(n)));
-        };
+        let (a, b, c, end) = packet_line(text, at, sh.w).ok_or(broken)?;
         inside = inside_next(sh, n, inside, a, b, c);
         n += 1;
         at = end;
