@@ -79,13 +79,7 @@ fn pairs(text: &[u8], at: usize, w: usize) -> bool
     if !pair(text, at) {
         return false;
     }
-    let next = at + 3;
-    let rest = 3 * w - 3;
-    let mut differs: u8 = 0;
-    for i in 0..rest {
-        differs |= kind(text[at + i]) ^ kind(text[next + i]);
-    }
-    differs == 0
+    text[at..at + 3 * w].windows(4).fold(0, |differs, c| differs | (kind(c[0]) ^ kind(c[3]))) == 0
 }
 
 // Whether a space and two hexadecimal digits stand at a place.
