@@ -20,8 +20,8 @@ returns c =
     let line = take n (drop at t) in
     let size : at + n - at ≡ n = omega arith in
     let windows =
-        windows-give c.windows.result line (n - 3) c.windows.ensures.size
-        (c.windows.ensures.rest ∙ ap (λ (m : ℕ). take m (drop at t)) size)
-        (omega (arith, c.requires.1, length-drop at t, length-take-le n (drop at t) (omega (arith, c.requires.1, length-drop at t)))) in
+    windows-give c.windows-fours.result line (n - 3) c.windows-fours.ensures.size
+    (c.windows-fours.ensures.rest ∙ ap (λ (m : ℕ). take m (drop at t)) size)
+    (omega (arith, c.requires.1, length-drop at t, length-take-le n (drop at t) (omega (arith, c.requires.1, length-drop at t)))) in
     pairs-told t at c.args.w _ (omega (arith, c.requires.1)) (decides-true c.pair.ensures c.if-not-pair.false) (omega arith)
     (fold_from_yields_List _ (λ b x. bit_or b x) _ _ c.fold.ensures.ran windows (λ b x r q k. search (rules, tests)))
