@@ -1,4 +1,6 @@
-// What the programs print: characters, decimal numbers and hexadecimal bytes, appended to a lent buffer.
+// What the programs print: characters, decimal numbers and hexadecimal bytes, appended to a lent buffer. It is put there by hand: `write!` says what
+// it wrote on Ok alone and may answer an Err, and these cut at the buffer's end and cannot fail. A refusal is its number, and a shape four numbers,
+// since this crate stands on `io` alone.
 #![tactic(auto)]
 
 ghost use Rattle.std.specs.Prelude.{◌≡◌, ◌≤◌};
@@ -23,7 +25,7 @@ pub fn append(out: &mut [u8], at: usize, bytes: &[u8]) -> usize
     end
 }
 
-// The decimal digits of a number, without leading zeros.
+// The decimal digits of a number, without leading zeros. Their buffer stands with its length: `io::decimal` fills 20 places and says how many.
 fn append_decimal(out: &mut [u8], at: usize, n: u64) -> usize
     ensures { Appended out.old at (decimal n) out.new result }
 {

@@ -52,10 +52,6 @@ pub scanned-whole : {t : List ℕ} (r : Result Contents Refusal) (s : Contents) 
 scanned-whole {t} r s (scan_whole s' ks h) e = let same : s' ≡ s = cc in rw (sym same) (record { list = ks; scanning = h })
 scanned-whole {t} r s (scan_broken m b) e = let z : ◌≡◌ {A = ℕ} 0 1 = cc in absurd (omega arith)
 
--- a text in the form has no more packets than a count can hold
-pub packets-few : {t : List ℕ} {s : Contents} → Read t s → s.packets ≤ 4294967295
-packets-few {t} {s} r = omega (arith, r.scanning.packets, r.scanning.form.most)
-
 pub size-told : {t : List ℕ} {s : Contents} (v : Value ℕ) → Read t s → v ≡ checked (air_size_checked s.shape s.packets) → PackSizeOutcome t v
 size-told {t} {s} v r e =
     let h = r.scanning in

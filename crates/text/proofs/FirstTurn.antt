@@ -1,5 +1,5 @@
 -- The first turn over a text: the packets read so far, one more, all of them, or a line that breaks the form.
-use Rattle.std.specs.Prelude.{Ok, Err, Option, Some, None}
+use Rattle.std.specs.Prelude.{Result, Ok, Err, Option, Some, None}
 use mathlib.Core.Path.{◌≡◌, refl, sym, ap, ◌∙◌}
 use mathlib.Core.Logic.{◌⊎◌, inl, inr}
 use mathlib.Core.List.{List, [], ◌∷◌, ◌++◌, append_assoc, append-nil}
@@ -9,6 +9,10 @@ use lib.ListN.{length, drop, length-append, length-drop, drop_of_length-le, get_
 use lib.Seq.{get_or-append_seam}
 use borrow.Author.Count.{below_more}
 use Rattle.answer.proofs.Tuples.{some-four}
+use Rattle.std.specs.Option.{ok_or}
+use Rattle.std.specs.Result.{IsErrAnd}
+use Rattle.std.proofs.lemmas.Result.{err_from_is_err_and}
+use Rattle.answer.specs.declared.Refusal.{Refusal}
 use Rattle.answer.specs.declared.Refusal.TheVariants.{Line}
 use Rattle.shape.specs.declared.Shape.{Shape}
 use Rattle.pack.specs.Packs.{Packet}
@@ -22,6 +26,15 @@ use Rattle.text.specs.Inner.Scan.{FirstOut, ScanOutcome, scan_whole, scan_broken
 use Rattle.text.proofs.Standing.{stands-end}
 
 -- ---- what a line's answer tells
+
+-- where there is no line, the refusal is the one that stands by
+pub none-refused : {A B : Type 0} (o : Option A) (f e : Refusal) (out : Result B Refusal) → ◌≡◌ {A = Result A Refusal} (Err e) (ok_or o f)
+    → IsErrAnd out (λ g. g ≡ e) → out ≡ Err f
+none-refused {A} None f e out given h =
+    let (g, is, same) = err_from_is_err_and out h in
+    let last : e ≡ f = cc in
+    is ∙ ap (λ (x : Refusal). Err x) (same ∙ last)
+none-refused {A} (Some x) f e out given h = let z : ◌≡◌ {A = ℕ} 0 1 = cc in absurd (omega arith)
 
 pub shape-none : {t : List ℕ} (r : Option (Shape × ℕ)) → ShapeLineOutcome t r → r ≡ None → ScanOutcome t (Err (Line 1))
 shape-none _ (shape_found sh end f) e = let z : ◌≡◌ {A = ℕ} 0 1 = cc in absurd (omega arith)

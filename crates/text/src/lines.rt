@@ -1,8 +1,9 @@
-// The lines of a text: line 1 with the shape, and the lines of packets.
+// The lines of a text: line 1 with the shape, and the lines of packets. The text and a place in it stay two parameters of every function: callers
+// keep the place alone, and what each promises names both. Numbers read go back as a tuple with the place behind them, which is taken apart at once.
 ghost use Rattle.std.specs.Prelude.{◌≡◌, ◌+◌, ◌*◌, ◌≤◌, ◌<◌, length};
 ghost use Rattle.printing.specs.Text.{numbered};
 ghost use Rattle.span.specs.Decision.{Decides};
-ghost use Rattle.text.specs.Inner.Numbers.{NumberOutcome};
+ghost use Rattle.text.specs.Inner.Numbers.{Short, NumberOutcome};
 ghost use Rattle.text.specs.Inner.Lines.{char_kind, Pair, Pairs, HexLine, ThreeOutcome, PacketLineOutcome, ShapeLineOutcome};
 
 use crate::numbers::number;
@@ -10,7 +11,7 @@ use shape::Shape;
 
 // The line `packet a b c` with w bytes that begins at a place.
 pub(crate) fn packet_line(text: &[u8], at: usize, w: usize) -> Option<(usize, usize, usize, usize)>
-    requires { (at ≤ length text.now) × (w < 100000) }
+    requires { (at ≤ length text.now) × Short w }
     ensures { PacketLineOutcome w text.now at result }
 {
     let (a, b, c, end) = three(text, at, b"packet ")?;
@@ -55,9 +56,10 @@ fn labelled(text: &[u8], at: usize, label: &[u8]) -> Option<(usize, usize)>
     number(text, at + size)
 }
 
-// Whether w bytes, a space before each, and a newline stand at a place. That they lie in the text is asked once for the whole line.
+// Whether w bytes, a space before each, and a newline stand at a place. That they lie in the text is asked once for the whole line, and not by
+// `get`: what is promised goes by places of the text, and the slice would begin at 0.
 fn hex_line(text: &[u8], at: usize, w: usize) -> bool
-    requires { w < 100000 }
+    requires { Short w }
     ensures { Decides (HexLine w text.now at) result }
 {
     let digits = 3 * w;
@@ -68,9 +70,9 @@ fn hex_line(text: &[u8], at: usize, w: usize) -> bool
 }
 
 // Whether w bytes stand at a place, a space before each. Every character is of the kind of the third before it: the differences are
-// joined by or, so that many characters are compared at once.
+// joined by or, and not asked for by `all`, so that many characters are compared at once.
 fn pairs(text: &[u8], at: usize, w: usize) -> bool
-    requires { (w < 100000) × (at + 3 * w ≤ length text.now) }
+    requires { Short w × (at + 3 * w ≤ length text.now) }
     ensures { Decides (Pairs text.now at w) result }
 {
     if w == 0 {
@@ -79,13 +81,8 @@ fn pairs(text: &[u8], at: usize, w: usize) -> bool
     if !pair(text, at) {
         return false;
     }
-    let next = at + 3;
-    let rest = 3 * w - 3;
-    let mut differs: u8 = 0;
-    for i in 0..rest {
-        differs |= kind(text[at + i]) ^ kind(text[next + i]);
-    }
-    differs == 0
+    let fours = text[at..at + 3 * w].windows(4);
+    fours.fold(0, |differs, c| differs | (kind(c[0]) ^ kind(c[3]))) == 0
 }
 
 // Whether a space and two hexadecimal digits stand at a place.
@@ -97,18 +94,14 @@ fn pair(text: &[u8], at: usize) -> bool
 }
 
 // The kind of a character: 0 for a hexadecimal digit in lower case, 1 for a space, 2 for any other. The kinds are numbers and no enum, since
-// `pairs` joins them by xor and or: so many characters are compared at once.
+// `pairs` joins them by xor and or.
+#[tactic(auto, unfolding(crate::specs::Inner::Lines::char_kind))]
 fn kind(c: u8) -> u8
     ensures { result ≡ char_kind c }
 {
-    if c < 48 {
-        return if c == 32 { 1 } else { 2 };
+    match c {
+        b'0'..=b'9' | b'a'..=b'f' => 0,
+        b' ' => 1,
+        _ => 2,
     }
-    if c < 58 {
-        return 0;
-    }
-    if c < 97 {
-        return 2;
-    }
-    if c < 103 { 0 } else { 2 }
 }

@@ -29,9 +29,5 @@ fn digit(text: &[u8], at: usize) -> Option<usize>
     ensures { DigitOutcome text.now at result }
 {
     let c = *text.get(at)?;
-    if c.is_ascii_digit() {
-        Some(usize::from(c - b'0'))
-    } else {
-        None
-    }
+    c.is_ascii_digit().then(|| usize::from(c - b'0'))
 }

@@ -26,7 +26,7 @@ pub fn text_pack_bytes(text: &[u8]) -> Result<usize, Refusal>
     ensures { PackSizeOutcome text.now (value_of result) }
 {
     let s = scan(text)?;
-    pack_writer::air_bytes(s.shape, s.packets as u32)
+    pack_writer::air_bytes(s.shape, s.packets)
 }
 
 // Reads a text to its air pack, over the whole of `air`.
@@ -42,14 +42,14 @@ fn read_whole(text: &[u8], air: &mut [u8], s: Contents) -> Result<(), Refusal>
     requires { Read text.now s }
     ensures { ReadTextOutcome text.now air.old air.new (value_of result) }
 {
-    let size = pack_writer::air_bytes(s.shape, s.packets as u32)?;
+    let size = pack_writer::air_bytes(s.shape, s.packets)?;
     if air.len() != size {
         return Err(Refusal::Plain(Fault::SliceLength));
     }
     if s.inside < s.packets {
-        return Err(Refusal::Packet(PacketFault::CellIndex, s.inside as u64));
+        return Err(Refusal::Packet(PacketFault::CellIndex, u64::from(s.inside)));
     }
-    let first = pack_writer::start_air(air, s.shape, s.packets as u32)?;
+    let first = pack_writer::start_air(air, s.shape, s.packets)?;
     put_packets(text, air, s, first);
     Ok(())
 }
@@ -79,6 +79,7 @@ fn put_packet(text: &[u8], air: &mut [u8], turn: Turn, w: usize) -> Turn
     let Some((a, b, c, end)) = three(text, turn.at, b"packet ") else {
         return turn;
     };
+    // `as`: there is no From of usize for u8, and `try_from` would answer an Err that cannot come; the proof shows that nothing is lost.
     let cell = pack_writer::write_coordinates(air, turn.next, a as u8, b as u8, c as u8);
     let to = cell.at;
     decode(text, air, end, to, w);
@@ -88,7 +89,8 @@ fn put_packet(text: &[u8], air: &mut [u8], turn: Turn, w: usize) -> Turn
     }
 }
 
-// The n bytes whose digits begin at a place, a space before each.
+// The n bytes whose digits begin at a place, a space before each. By index: std does not say what a slice holds once an adapter of `iter_mut` has
+// written it.
 fn decode(text: &[u8], out: &mut [u8], from: usize, to: usize, n: usize)
     requires { HexLine n text.now from × (to + n ≤ length out.old) }
     ensures { Put out.old to (pair_bytes text.now from n) out.new }

@@ -10,15 +10,15 @@ use answer::Refusal;
 use shape::Shape;
 
 // The most packets that a text may have.
-const MOST: usize = 4294967295;
+const MOST: u64 = 4294967295;
 
-// A text in the form: the shape of line 1, the packet lines, how many of the first packets lie inside the shape's lengths, and the byte
-// where the packet lines begin.
+// A text in the form: the shape of line 1, the number of packet lines, how many of the first packets lie inside the shape's lengths, and the byte
+// where the packet lines begin. Where every packet lies inside, `inside` is their number: it is a count, and no number stands for "none".
 #[derive(Clone, Copy)]
 pub(crate) struct Contents {
     pub(crate) shape: Shape,
-    pub(crate) packets: usize,
-    pub(crate) inside: usize,
+    pub(crate) packets: u32,
+    pub(crate) inside: u32,
     pub(crate) lines: usize,
 }
 
@@ -26,9 +26,7 @@ pub(crate) struct Contents {
 pub(crate) fn scan(text: &[u8]) -> Result<Contents, Refusal>
     ensures { ScanOutcome text.now result }
 {
-    let Some((sh, lines)) = shape_line(text) else {
-        return Err(Refusal::Line(1));
-    };
+    let (sh, lines) = shape_line(text).ok_or(Refusal::Line(1))?;
     scan_packets(text, sh, lines)
 }
 
@@ -38,30 +36,32 @@ fn scan_packets(text: &[u8], sh: Shape, lines: usize) -> Result<Contents, Refusa
     ensures { ScanOutcome text.now result }
 {
     let mut at = lines;
-    let mut n: usize = 0;
-    let mut inside: usize = 0;
+    let mut n: u64 = 0;
+    let mut inside: u64 = 0;
     // No index is counted: a line's end is where the next begins.
     while at < text.len() {
+        // Packet n stands on line n + 2.
+        let broken = Refusal::Line(n + 2);
         if n == MOST {
-            return Err(Refusal::Line(line_of(n)));
+            return Err(broken);
         }
-        let Some((a, b, c, end)) = packet_line(text, at, sh.w) else {
-            return Err(Refusal::Line(line_of(n)));
-        };
+        let (a, b, c, end) = packet_line(text, at, sh.w).ok_or(broken)?;
         inside = inside_next(sh, n, inside, a, b, c);
         n += 1;
         at = end;
     }
+    // `as`: n is at most `MOST`, and `try_from` would answer an Err that cannot come; the proof shows that nothing is lost.
     Ok(Contents {
         shape: sh,
-        packets: n,
-        inside,
+        packets: n as u32,
+        inside: inside as u32,
         lines,
     })
 }
 
-// The packets inside from the first on, once packet n with its a, b and c is counted too.
-fn inside_next(sh: Shape, n: usize, inside: usize, a: usize, b: usize, c: usize) -> usize
+// The packets inside from the first on, once packet n with its a, b and c is counted too. `pack` asks the same of a packet of a pack: one function
+// for both would be public, for a comparison in each.
+fn inside_next(sh: Shape, n: u64, inside: u64, a: usize, b: usize, c: usize) -> u64
     requires { (inside ≤ n) × (n ≤ 4294967295) }
     ensures { InsideNext sh n inside a b c result }
 {
@@ -70,12 +70,4 @@ fn inside_next(sh: Shape, n: usize, inside: usize, a: usize, b: usize, c: usize)
     } else {
         inside
     }
-}
-
-// The line of packet n.
-fn line_of(n: usize) -> u64
-    requires { n ≤ 4294967295 }
-    ensures { result ≡ n + 2 }
-{
-    n as u64 + 2
 }

@@ -1,22 +1,27 @@
--- `text::lines::pairs` meets its contract: the differences so far are 0 exactly when the characters so far are alike.
-use mathlib.Core.Path.{sym, ◌∙◌}
+-- `text::lines::pairs` meets its contract: the fold joins the differences of all windows.
+use mathlib.Core.Path.{◌≡◌, ap, ◌∙◌}
+use Prim.Native.Nat.{ℕ, ◌+◌, ◌-◌, ◌*◌}
 use native.Mathlib.Omega.{arith}
-use Rattle.span.proofs.Decision.{decides_eq}
-use Rattle.span.proofs.Joining.{joined-more, xor-zero, xor_same}
-use Rattle.text.proofs.Hexadecimal.{pairs-alike, alike-pairs}
+use lib.Bits.{bit_or}
+use lib.ListN.{take, drop, length-drop}
+use lib.Seq.{length-take-le}
+use Rattle.std.proofs.Common.{rules, tests}
+use Rattle.std.proofs.lemmas.Iterator.Consumers.{fold_from_yields_List}
+use Rattle.span.proofs.Decision.{decides-true}
+use Rattle.text.proofs.Differences.{difference, windows-give, pairs-told}
 use Rattle.text.proofs.lines.pairs.Goals as goal
 
-pub loop-i-preserved : goal.loop-i-preserved
-loop-i-preserved c =
-    let inv = c.loop-i.invariant in
-    let here = c.kind.ensures in
-    let there = c.kind-in-loop-i.ensures in (
-      inv.0,
-      joined-more _ _ _ _ inv.1 (λ e. sym here ∙ (xor-zero _ _ e ∙ there)) (λ p. xor_same _ _ (here ∙ (p ∙ sym there))),
-    )
-
 pub returns : goal.returns
+unfolding difference
 returns c =
-    let inv = c.loop-i.invariant in
-    decides_eq _ _ (λ h. inv.1.zero (λ i l. alike-pairs _ _ _ h i (omega arith)))
-    (λ e. pairs-alike _ _ _ inv.0 (λ i l. inv.1.all e i (omega arith)))
+    let t = c.args.text.now in
+    let at = c.args.at in
+    let n = 3 * c.args.w in
+    let line = take n (drop at t) in
+    let size : at + n - at ≡ n = omega arith in
+    let windows =
+    windows-give c.windows-fours.result line (n - 3) c.windows-fours.ensures.size
+    (c.windows-fours.ensures.rest ∙ ap (λ (m : ℕ). take m (drop at t)) size)
+    (omega (arith, c.requires.1, length-drop at t, length-take-le n (drop at t) (omega (arith, c.requires.1, length-drop at t)))) in
+    pairs-told t at c.args.w _ (omega (arith, c.requires.1)) (decides-true c.pair.ensures c.if-not-pair.false) (omega arith)
+    (fold_from_yields_List _ (λ b x. bit_or b x) _ _ c.fold.ensures.ran windows (λ b x r q k. search (rules, tests)))

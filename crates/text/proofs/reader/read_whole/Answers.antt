@@ -27,7 +27,8 @@ pub returns-then-s : goal.returns-then-s
 unfolding value_of refusal packet_fault_number
 returns-then-s c =
     let passed = air-size-given _ _ _ c.air_bytes.ensures _ c.in_ok-size.was in
-    read-beyond c.requires _ (start_fits _ _ _ _ passed c.if-air-size.false) (omega (arith, c.if-s.true))
+    rw c.from.ensures
+    (read-beyond c.requires _ (start_fits _ _ _ _ passed c.if-air-size.false) (omega (arith, c.if-s.true)))
 
 pub returns-in_err-first : goal.returns-in_err-first
 returns-in_err-first c =

@@ -1,19 +1,13 @@
 -- `text::reader::text_pack_bytes` meets its contract. Assumes nothing.
-use native.Mathlib.Omega.{arith}
 use Rattle.answer.proofs.Values.{handed-on}
 use Rattle.text.specs.Text.{size_broken}
-use Rattle.text.proofs.Decoding.{scanned-broken, scanned-whole, packets-few, size-told}
+use Rattle.text.proofs.Decoding.{scanned-broken, scanned-whole, size-told}
 use Rattle.text.proofs.reader.text_pack_bytes.Goals as goal
 
 pub returns-in_err-s : goal.returns-in_err-s
 returns-in_err-s c =
     let (n, value, broken) = scanned-broken _ _ c.scan.ensures c.in_err-s.was in
     rw (handed-on _ _ _ c.from_residual.ensures.1 value) (size_broken n broken)
-
-pub overflow_cast-s : goal.overflow_cast-s
-overflow_cast-s c =
-    let r = scanned-whole _ _ c.scan.ensures c.in_ok-s.was in
-    omega (arith, packets-few r, r.scanning.inside.bound, r.scanning.packets)
 
 pub returns : goal.returns
 returns c =
