@@ -1,4 +1,5 @@
-// Flags and cells. Within a call a cell that was filled has the flag MARKED, above every flag of a caller.
+// Flags and cells. Within a call a cell that was filled has the flag MARKED, above every flag of a caller. Cube and flags are lent in turn as shared and
+// as mutable, so no struct holds both for these calls, as `Lent` does for the last check.
 ghost use Rattle.std.specs.Prelude.{◌≡◌, length};
 ghost use Rattle.stopping.specs.Stopping.{number};
 ghost use Rattle.shape.specs.Flags.{missing};

@@ -1,4 +1,4 @@
--- `fill::verify::verify_line` tells whether a line without a missing cell is a codeword in every layer.
+-- `Lent::verify_line` tells whether a line without a missing cell is a codeword in every layer.
 use mathlib.Core.Path.{◌≡◌}
 use Prim.Native.Nat.{min}
 use native.Mathlib.Omega.{arith}
@@ -12,21 +12,21 @@ use Rattle.erasures.proofs.Inside.{line-places}
 use Rattle.peel.specs.Inner.OnLine.{Neighbours}
 use Rattle.peel.proofs.Lines.{first-room, stride-room}
 use Rattle.fill.proofs.Lines.{neighbours-one, right-missing, right-codewords, line-decided, line-none}
-use Rattle.fill.proofs.verify.verify_line.Goals as goal
-use Rattle.fill.proofs.verify.verify_line.Goals.{After-scan_line-e, In-Ok}
+use Rattle.fill.proofs.verify.Lent.verify_line.Goals as goal
+use Rattle.fill.proofs.verify.Lent.verify_line.Goals.{After-scan_line-e, In-Ok}
 
-found : (c : In-Ok) → line_of c.args.sh c.args.axis c.args.m ≡ passes c.in-Ok.line
+found : (c : In-Ok) → line_of c.args.self.now.shape c.args.axis c.args.m ≡ passes c.in-Ok.line
 found c = value-passed _ _ _ c.axis_line.ensures c.in-Ok.is
 
-line : (c : In-Ok) → IsLine c.args.sh c.in-Ok.line.first c.in-Ok.line.stride c.in-Ok.line.len
+line : (c : In-Ok) → IsLine c.args.self.now.shape c.in-Ok.line.first c.in-Ok.line.stride c.in-Ok.line.len
 line c = line-found _ _ _ _ (found c)
 
-alone : (c : In-Ok) → Neighbours c.args.sh c.in-Ok.line.first c.in-Ok.line.stride c.in-Ok.line.len 1
-alone c = neighbours-one _ _ _ _ c.requires.valid (line c)
+alone : (c : In-Ok) → Neighbours c.args.self.now.shape c.in-Ok.line.first c.in-Ok.line.stride c.in-Ok.line.len 1
+alone c = neighbours-one _ _ _ _ c.args.self.now.sized.valid (line c)
 
-counted : (c : After-scan_line-e) → c.scan_line-e.result.count ≡ min 3 (on_line (missing c.args.flags.now) c.in-Ok.line.first c.in-Ok.line.stride c.in-Ok.line.len)
+counted : (c : After-scan_line-e) → c.scan_line-e.result.count ≡ min 3 (on_line (missing c.args.self.now.flags.now) c.in-Ok.line.first c.in-Ok.line.stride c.in-Ok.line.len)
 counted c =
-    let pre = c.requires in
+    let pre = c.args.self.now.sized in
     (c.scan_line-e.ensures.done (line-places _ _ _ _ _ pre.valid pre.flags (line-found _ _ _ _ (value-passed _ _ _ c.axis_line.ensures c.in-Ok.is)))).0.number
 
 pub returns-in_default : goal.returns-in_default
@@ -36,18 +36,18 @@ pub returns-then-e-ne0 : goal.returns-then-e-ne0
 returns-then-e-ne0 c =
     let here = goal.at.returns-then-e-ne0 c in
     line-decided _ _ _ _ _ _ _ (found here.In-Ok) _
-    (right-missing _ _ _ c.requires _ _ _ (line here.In-Ok)
+    (right-missing _ _ _ c.args.self.now.sized _ _ _ (line here.In-Ok)
     _ (λ e. omega (arith, counted here.After-scan_line-e, c.if-e-ne0.true)))
 
 pub overflow_mul-run : goal.overflow_mul-run
-overflow_mul-run c = omega (arith, first-room _ c.args.cube.now c.requires.valid c.requires.bytes _ _ _ 1 (alone (goal.at.overflow_mul-run c).In-Ok))
+overflow_mul-run c = omega (arith, first-room _ c.args.self.now.cube.now c.args.self.now.sized.valid c.args.self.now.sized.bytes _ _ _ 1 (alone (goal.at.overflow_mul-run c).In-Ok))
 
 pub overflow_mul-run-2 : goal.overflow_mul-run-2
-overflow_mul-run-2 c = omega (arith, stride-room _ c.args.cube.now c.requires.valid c.requires.bytes _ _ _ 1 (alone (goal.at.overflow_mul-run-2 c).In-Ok))
+overflow_mul-run-2 c = omega (arith, stride-room _ c.args.self.now.cube.now c.args.self.now.sized.valid c.args.self.now.sized.bytes _ _ _ 1 (alone (goal.at.overflow_mul-run-2 c).In-Ok))
 
 pub returns : goal.returns
 returns c =
     let here = goal.at.returns c in
     line-decided _ _ _ _ _ _ _ (found here.In-Ok) _
-    (right-codewords _ _ _ c.requires _ _ _ (line here.In-Ok)
+    (right-codewords _ _ _ c.args.self.now.sized _ _ _ (line here.In-Ok)
     _ (omega (arith, counted here.After-scan_line-e, c.if-e-ne0.false)) _ (rw c.reduction.ensures at c.codewords.ensures))
