@@ -137,21 +137,6 @@ module _ (p : List ℕ) (h : Header) (s : Section) (i : ℕ) where
 
 -- ---- for callers
 
--- a packet that stands in its pack and names a cell is answered so
-pub packet-named : (p : List ℕ) (h : Header) (s : Section) (i : ℕ) (r : Option (ℕ × ℕ)) → PacketOutcome p h s i r → Named p h s i
-    → r ≡ Some ((source p h s).place i, packet_at h s i + 3)
-packet-named p h s i r (named n) m = refl
-packet-named p h s i r (unnamed never) m = absurd (never (on-cube p h s i m))
-
-pub packet-off : (p : List ℕ) (h : Header) (s : Section) (i : ℕ) (r : Option (ℕ × ℕ)) → PacketOutcome p h s i r → r ≡ None
-    → OnCube p h s i → ⊥
-packet-off p h s i r (named m) e = let z : ◌≡◌ {A = ℕ} 0 1 = cc in absurd (omega arith)
-packet-off p h s i r (unnamed never) e = never
-
-pub packet-absent : (p : List ℕ) (h : Header) (s : Section) (i : ℕ) (r : Option (ℕ × ℕ)) → PacketOutcome p h s i r → r ≡ None
-    → Named p h s i → ⊥
-packet-absent p h s i r o e n = packet-off p h s i r o e (on-cube p h s i n)
-
 -- all packets of a pack that was read stand in it: they name a cell where they pass check 11
 pub air-named : (p : List ℕ) (h : Header) (s : Section) (i : ℕ) → air_of p ≡ passes (h, s) → i < s.count
     → InRange p h s i → Named p h s i

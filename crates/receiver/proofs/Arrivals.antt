@@ -1,6 +1,6 @@
 -- The cube and flags as packets are placed: none yet; one more, the first of its cell or a copy that equals what stands there or differs from
 -- it; and the flags at the end.
-use mathlib.Core.Path.{◌≡◌, refl, sym, ap, subst, ◌∙◌}
+use mathlib.Core.Path.{◌≡◌, refl, sym, ap, ◌∙◌}
 use mathlib.Core.Bool.{Bool, true, false, cond, not, true≢false, false≢true}
 use mathlib.Core.List.{List}
 use mathlib.Core.Logic.{◌≢◌, ⊎_elim}
@@ -12,7 +12,6 @@ use native.Mathlib.Omega.{arith}
 use lib.Dec.{eqb}
 use lib.ListN.{length, get_or, set, length-set}
 use lib.Seq.{get_or-set_same, get_or-set_other}
-use Rattle.span.proofs.Copying.{copied_none, copied_more}
 use Rattle.span.proofs.Stretches.{stretch-end}
 use Rattle.span.proofs.Differing.{differing-byte}
 use Rattle.span.specs.Decision.{Decides}
@@ -27,7 +26,7 @@ use Rattle.pack.specs.declared.Header.{Header}
 use Rattle.pack.specs.Packs.{unsent}
 use Rattle.pack.specs.Packets.{Source}
 use Rattle.receiver.specs.Placing.{among, repeats_of, agreed, conflicting, conflicts_of, flag_at, Placed}
-use Rattle.receiver.specs.Inner.Placing.{mark_at, Marked, Arrived, Tried, Run, Stops}
+use Rattle.receiver.specs.Inner.Placing.{mark_at, Marked, Arrived, Tried, Run}
 use Rattle.receiver.proofs.Copies.{among-earlier, among_same, among-other, earlier-among, agreed-none, conflict-then, equal-conflict, agreed-other, agreed-more, agreed-differs, agreed-never}
 
 -- ---- flags and marks
@@ -141,14 +140,6 @@ kept-bytes sh src xs ys from m k w h ne l =
 -- the bytes of a cell lie inside the cube
 pub cell-inside : (sh : Shape) (m bytes : ℕ) → m < cells sh → bytes ≡ sh.w * cells sh → m * sh.w + sh.w ≤ bytes
 cell-inside sh m bytes l size = omega (arith, stretch-end m (cells sh) sh.w l)
-
--- of a single byte
-pub single-inside : (m w n : ℕ) → w ≡ 1 → m * w + w ≤ n → m < n
-single-inside m w n one l = let end : m * 1 + 1 ≤ n = subst (λ (v : ℕ). m * v + v ≤ n) one l in omega arith
-
-pub single-copied : (src xs : List ℕ) (from m w : ℕ) → w ≡ 1 → m < length xs → Copied src from xs (m * w) w (set xs m (get_or src from 0))
-single-copied src xs from m w one l =
-    rw one (copied_more src xs xs from (m * 1) 0 m _ (omega arith) (ap (λ (p : ℕ). get_or src p 0) (sym (add-zero from))) l (copied_none _ _ _ _))
 
 -- Packet i is for cell m, which is inside and sent. What stands in src from `from` on are its bytes.
 module _ (h : Header) (s : Source) (i : ℕ) (xs fs : List ℕ) (marked : Marked h s i xs fs) (m : ℕ) (here : m ≡ s.place i) (inside : m < cells h.shape)
@@ -297,19 +288,6 @@ module _ (h : Header) (s : Source) (n i : ℕ) (adds : ℕ) where
         marked = a.marked;
         repeats = rw (more, suc-mul (j - i) adds) (omega (arith, a.repeats, r.repeats));
       }
-
-  -- a packet that is not of its kind ends it
-  pub run-left : (j : ℕ) (xs fs ys gs : List ℕ) (came answer : Bool) → Run h s n i j xs fs adds → Tried h s j xs fs ys gs adds came answer
-      → answer ≡ false → Run h s n i j ys gs adds × (among s j (s.place j) ≡ came)
-  run-left j xs fs ys gs came answer r t left = let (e, x, f) = t.other left in (rw (x, f) r, e)
-
--- a run of repeats from a repeat on is not empty
-pub run-moves : (h : Header) (s : Source) (n i j adds : ℕ) (xs fs : List ℕ) → Run h s n i j xs fs adds → i < n → Stops s n i true → Stops s n j false → i < j
-run-moves h s n i j adds xs fs r l repeat first =
-    elim (ℕ_discrete i j) [
-      | yes e ↦ absurd (true≢false (sym (repeat l) ∙ ap (λ (k : ℕ). among s k (s.place k)) e ∙ first (omega arith)))
-      | no ne ↦ omega (arith, r.low)
-    ]
 
 -- ---- all packets placed
 

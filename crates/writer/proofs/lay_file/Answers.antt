@@ -1,14 +1,6 @@
 -- `writer::lay_file` meets its contract: the data string stands in the cube's data cells. Assumes nothing.
-use native.Mathlib.Omega.{arith}
-use Rattle.pack.proofs.Sound.{capacity_le}
 use Rattle.writer.proofs.Outcomes.{file-laid}
 use Rattle.writer.proofs.lay_file.Goals as goal
-
--- the file ends inside the cube
-pub overflow_add-n : goal.overflow_add-n
-overflow_add-n c =
-    let sound = c.requires.0 in
-    omega (arith, sound.room, capacity_le _ sound.header.valid)
 
 pub returns : goal.returns
 returns c =

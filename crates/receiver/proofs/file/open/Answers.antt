@@ -6,12 +6,6 @@ use Rattle.receiver.proofs.HeldFile.{held_small, read_told, opened-long, opened-
 use Rattle.receiver.proofs.file.open.Goals as goal
 use Rattle.receiver.proofs.file.open.Goals.{then-buffer-n-via-then-buffer-n, then-buffer-n-via-else-buffer-n+then-not-zero_behind}
 
-pub held_length-n-requires : goal.held_length-n-requires
-held_length-n-requires c = (c.requires.0, c.requires.1)
-
-pub zero_behind-requires : goal.zero_behind-requires
-zero_behind-requires c = c.requires.0
-
 pub returns-then-buffer-n : goal.returns-then-buffer-n
 unfolding value_of refusal fault_number
 returns-then-buffer-n c =

@@ -15,9 +15,6 @@ sent : (p : After-place_packets-repeats) → (i : ℕ) → i < p.args.packets.no
     → unsent p.args.packets.now.header ((source p.args.packets.now.bytes.now p.args.packets.now.header p.args.packets.now.section).place i) ≡ false
 sent p i l = place-sent _ _ _ _ (p.requires.0 i l).range
 
-pub begin-requires : goal.begin-requires
-begin-requires c = (c.requires.1, c.requires.2, c.requires.3)
-
 pub place_packets-repeats-requires : goal.place_packets-repeats-requires
 place_packets-repeats-requires c =
     record { valid = c.requires.1.valid; named = c.requires.0; high = omega arith; marked = c.begin.ensures _ }

@@ -8,7 +8,7 @@ use Rattle.span.specs.Span.{BothInside}
 use Rattle.shape.specs.Shapes.{cells}
 use Rattle.pack.specs.Packs.{unsent}
 use Rattle.pack.specs.Packets.{source}
-use Rattle.pack.proofs.Naming.{Told, packet-told, packet-absent, place_lt, place-sent}
+use Rattle.pack.proofs.Naming.{Told, packet-told, place_lt, place-sent}
 use Rattle.receiver.proofs.Arrivals.{cell-inside, is-repeat, arrived-first, tried-placed, tried_other}
 use Rattle.receiver.proofs.placing.place_first.Given.{Over}
 use Rattle.receiver.proofs.placing.place_first.Goals as goal
@@ -33,10 +33,6 @@ inside : (g : Over) (c : In-Some g)
     → BothInside c.args.packets.now.bytes.now c.in-Some.from c.args.cube.now (c.in-Some.m * c.args.packets.now.header.shape.w) c.args.packets.now.header.shape.w
 inside g c = ((told g c).inside, cell-inside _ _ _ (below g c) c.requires.valid.2.cube_size)
 
-pub returns-in_default : goal.returns-in_default
-returns-in_default g c =
-    absurd (packet-absent _ _ _ _ _ c.packet.ensures c.in_default.is c.requires.valid.1)
-
 pub bounds-flags-m : goal.bounds-flags-m
 bounds-flags-m g c = flag-inside g (goal.at.bounds-flags-m g c).In-Some
 
@@ -46,9 +42,6 @@ returns-then-flags-m-ne-MISSING g c =
 
 pub put-requires : goal.put-requires
 put-requires g c = (inside g (goal.at.put-requires g c).In-Some, c.requires.w_value)
-
-pub bounds-flags-m-2 : goal.bounds-flags-m-2
-bounds-flags-m-2 g c = flag-inside g (goal.at.bounds-flags-m-2 g c).In-Some
 
 pub returns : goal.returns
 returns g c =

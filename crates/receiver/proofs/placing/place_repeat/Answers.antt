@@ -8,7 +8,7 @@ use Rattle.span.specs.Span.{BothInside}
 use Rattle.shape.specs.Shapes.{cells}
 use Rattle.pack.specs.Packs.{unsent}
 use Rattle.pack.specs.Packets.{source}
-use Rattle.pack.proofs.Naming.{Told, packet-told, packet-absent, place_lt, place-sent}
+use Rattle.pack.proofs.Naming.{Told, packet-told, place_lt, place-sent}
 use Rattle.receiver.proofs.Arrivals.{cell-inside, is-first, arrived-same, arrived-other, tried-placed, tried_other}
 use Rattle.receiver.proofs.placing.place_repeat.Goals as goal
 use Rattle.receiver.proofs.placing.place_repeat.Goals.{In-Some}
@@ -31,10 +31,6 @@ flag-inside c = omega (arith, below c, c.requires.2.flags_size)
 inside : (c : In-Some)
     → BothInside c.args.packets.now.bytes.now c.in-Some.from c.args.cube.now (c.in-Some.m * c.args.packets.now.header.shape.w) c.args.packets.now.header.shape.w
 inside c = ((told c).inside, cell-inside _ _ _ (below c) c.requires.2.cube_size)
-
-pub returns-in_default : goal.returns-in_default
-returns-in_default c =
-    absurd (packet-absent _ _ _ _ _ c.packet.ensures c.in_default.is c.requires.1)
 
 pub bounds-flags-m : goal.bounds-flags-m
 bounds-flags-m c = flag-inside (goal.at.bounds-flags-m c).In-Some

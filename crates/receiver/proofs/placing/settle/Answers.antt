@@ -4,11 +4,11 @@ use mathlib.Core.Logic.{◌≢◌, ◌⊎◌, inl, inr}
 use Prim.Native.Nat.{◌+◌}
 use native.Mathlib.Numerals.{add-one}
 use native.Mathlib.Omega.{arith}
-use lib.ListN.{length, get_or, set}
+use lib.ListN.{get_or, set}
 use lib.Seq.{set-get_or}
 use borrow.Author.Tests.{eq-eqb, ne_eqb}
 use Rattle.shape.specs.Inner.Marks.{is_marked}
-use Rattle.shape.proofs.Marks.{RemarkedTo, remarked-none, remarked-flag, remarked-turn, remarked-all}
+use Rattle.shape.proofs.Marks.{RemarkedTo, remarked-none, remarked-flag, remarked-turn}
 use Rattle.stopping.specs.Stopping.{number}
 use Rattle.stopping.proofs.Number.{number-nil, number-le, number_in, number-out}
 use Rattle.receiver.proofs.placing.settle.Goals as goal
@@ -51,11 +51,3 @@ loop-flag-preserved c =
         | else-flag-eq-MARKED w ↦ omega (arith, w.conflicts-is, l.invariant.2, counted-out 1 _ _ _ l.invariant.1 w.if-flag-eq-MARKED.false)
       ],
     )
-
-pub returns : goal.returns
-returns c =
-    let e : c.loop-flag.flag-index ≡ length c.args.flags.now = omega (arith, c.loop-flag.invariant.0) in
-    record {
-      remarked = remarked-all 1 _ _ (rw e at c.loop-flag.invariant.1);
-      value = rw e at c.loop-flag.invariant.2;
-    }
