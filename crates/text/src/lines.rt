@@ -1,4 +1,5 @@
-// The lines of a text: line 1 with the shape, and the lines of packets.
+// The lines of a text: line 1 with the shape, and the lines of packets. The text and a place in it stay two parameters: callers keep the place alone
+// between calls, and what each call promises names both.
 ghost use Rattle.std.specs.Prelude.{◌≡◌, ◌+◌, ◌*◌, ◌≤◌, ◌<◌, length};
 ghost use Rattle.printing.specs.Text.{numbered};
 ghost use Rattle.span.specs.Decision.{Decides};
@@ -32,7 +33,7 @@ pub(crate) fn shape_line(text: &[u8]) -> Option<(Shape, usize)>
     Some((Shape { l1, l2, l3, w }, last + 1))
 }
 
-// A label and three numbers, with single spaces between.
+// A label and three numbers, with single spaces between. A tuple: each caller takes it apart at once, to lengths or to coordinates.
 pub(crate) fn three(text: &[u8], at: usize, label: &[u8]) -> Option<(usize, usize, usize, usize)>
     requires { at ≤ length text.now }
     ensures { ThreeOutcome label.now text.now at result }
@@ -57,18 +58,14 @@ fn labelled(text: &[u8], at: usize, label: &[u8]) -> Option<(usize, usize)>
 
 // Whether w bytes, a space before each, and a newline stand at a place. That they lie in the text is asked once for the whole line.
 fn hex_line(text: &[u8], at: usize, w: usize) -> bool
-    requires { w < 100000 }
+    requires { (w < 100000) × (at ≤ length text.now) }
     ensures { Decides (HexLine w text.now at) result }
 {
-    let digits = 3 * w;
-    digits < text.len()
-        && at < text.len() - digits
-        && text[at + digits] == b'\n'
-        && pairs(text, at, w)
+    text.get(at + 3 * w) == Some(&b'\n') && pairs(text, at, w)
 }
 
 // Whether w bytes stand at a place, a space before each. Every character is of the kind of the third before it: the differences are
-// joined by or, so that many characters are compared at once.
+// joined by or, and no `all` stops at the first, so that many characters are compared at once.
 fn pairs(text: &[u8], at: usize, w: usize) -> bool
     requires { (w < 100000) × (at + 3 * w ≤ length text.now) }
     ensures { Decides (Pairs text.now at w) result }

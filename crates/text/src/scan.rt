@@ -60,7 +60,8 @@ fn scan_packets(text: &[u8], sh: Shape, lines: usize) -> Result<Contents, Refusa
     })
 }
 
-// The packets inside from the first on, once packet n with its a, b and c is counted too.
+// The packets inside from the first on, once packet n with its a, b and c is counted too. They stay three: a packet is they and
+// its bytes, which only the second turn reads.
 fn inside_next(sh: Shape, n: usize, inside: usize, a: usize, b: usize, c: usize) -> usize
     requires { (inside ≤ n) × (n ≤ 4294967295) }
     ensures { InsideNext sh n inside a b c result }
@@ -72,7 +73,7 @@ fn inside_next(sh: Shape, n: usize, inside: usize, a: usize, b: usize, c: usize)
     }
 }
 
-// The line of packet n.
+// The line of packet n. `as`: there is no From of usize for u64.
 fn line_of(n: usize) -> u64
     requires { n ≤ 4294967295 }
     ensures { result ≡ n + 2 }

@@ -10,11 +10,6 @@ returns-in_err-s c =
     let (n, value, broken) = scanned-broken _ _ c.scan.ensures c.in_err-s.was in
     rw (handed-on _ _ _ c.from_residual.ensures.1 value) (size_broken n broken)
 
-pub overflow_cast-s : goal.overflow_cast-s
-overflow_cast-s c =
-    let r = scanned-whole _ _ c.scan.ensures c.in_ok-s.was in
-    omega (arith, packets-few r, r.scanning.inside.bound, r.scanning.packets)
-
 pub returns : goal.returns
 returns c =
     size-told _ (scanned-whole _ _ c.scan.ensures c.in_ok-s.was) c.air_bytes.ensures
