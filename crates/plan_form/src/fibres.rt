@@ -39,7 +39,7 @@ fn in_order(number: usize, pair: usize, least: usize) -> bool
 }
 
 // Where the walk through the closures stands once it has passed those below the number sought, at most behind the last. A place, from which the
-// next fibre's walk goes on.
+// next fibre's walk goes on; a loop and no `find`, whose none would have to be turned back to the place behind the last.
 fn advance(closures: &Entries<2>, q: usize, sought: usize) -> usize
     requires { let c = closures.now in Walked (entries c.bytes.now c.s.at) c.s.count sought q }
     ensures { let c = closures.now in Walked (entries c.bytes.now c.s.at) c.s.count sought result × ((result < c.s.count) → sought ≤ closure_at (entries c.bytes.now c.s.at) result) }

@@ -61,7 +61,7 @@ pub(crate) fn whole<const SIZE: usize>(file: &[u8], s: Section) -> Entries<'_, S
     }
 }
 
-// 18, with the byte at which the form is broken.
+// 18, with the byte at which the form is broken. `as`: there is no From of usize for u64.
 pub(crate) fn broken(at: usize) -> Refusal
     ensures { result ≡ Entry at }
 {

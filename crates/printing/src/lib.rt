@@ -25,7 +25,7 @@ pub fn append(out: &mut [u8], at: usize, bytes: &[u8]) -> usize
     end
 }
 
-// The decimal digits of a number, without leading zeros. Their buffer stands with its length: `io::decimal` fills 20 places and says how many.
+// The decimal digits of a number, without leading zeros: `io::decimal` fills 20 places from the front, and says how many it has used.
 fn append_decimal(out: &mut [u8], at: usize, n: u64) -> usize
     ensures { Appended out.old at (decimal n) out.new result }
 {

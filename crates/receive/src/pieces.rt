@@ -42,7 +42,7 @@ impl Text<'_> {
         self.run(out, 512 * (k - 1))
     }
 
-    // The texts from one on, 512 or as many as there are.
+    // The texts from one on, 512 or as many as there are. A loop and no `fold`: the buffer is written to in each turn.
     fn run(&self, out: &mut [u8], from: usize) -> usize
         requires { IsMemory out.old × (from < texts self.now.outcome) }
         ensures prefix_len { IsPrefixLen result out.new }

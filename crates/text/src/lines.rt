@@ -33,7 +33,7 @@ pub(crate) fn shape_line(text: &[u8]) -> Option<(Shape, usize)>
     Some((Shape { l1, l2, l3, w }, last + 1))
 }
 
-// A label and three numbers, with single spaces between.
+// A label and three numbers, with single spaces between. A tuple: each caller takes it apart at once, to lengths or to coordinates.
 pub(crate) fn three(text: &[u8], at: usize, label: &[u8]) -> Option<(usize, usize, usize, usize)>
     requires { at ≤ length text.now }
     ensures { ThreeOutcome label.now text.now at result }
@@ -56,17 +56,12 @@ fn labelled(text: &[u8], at: usize, label: &[u8]) -> Option<(usize, usize)>
     number(text, at + size)
 }
 
-// Whether w bytes, a space before each, and a newline stand at a place. That they lie in the text is asked once for the whole line, and not by
-// `get`: what is promised goes by places of the text, and the slice would begin at 0.
+// Whether w bytes, a space before each, and a newline stand at a place. The newline's `get` asks once for the whole line that they lie in the text.
 fn hex_line(text: &[u8], at: usize, w: usize) -> bool
-    requires { Short w }
+    requires { Short w × (at ≤ length text.now) }
     ensures { Decides (HexLine w text.now at) result }
 {
-    let digits = 3 * w;
-    digits < text.len()
-        && at < text.len() - digits
-        && text[at + digits] == b'\n'
-        && pairs(text, at, w)
+    text.get(at + 3 * w) == Some(&b'\n') && pairs(text, at, w)
 }
 
 // Whether w bytes stand at a place, a space before each. Every character is of the kind of the third before it: the differences are

@@ -21,7 +21,7 @@ pub(crate) struct Turn {
     pub(crate) next: Cursor,
 }
 
-// The bytes of a text's pack.
+// The bytes of a text's pack. `as` here and below: a text in the form has less than 2^32 packets, and a packet inside the shape lengths below 256.
 pub fn text_pack_bytes(text: &[u8]) -> Result<usize, Refusal>
     ensures { PackSizeOutcome text.now (value_of result) }
 {

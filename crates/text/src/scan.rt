@@ -59,8 +59,8 @@ fn scan_packets(text: &[u8], sh: Shape, lines: usize) -> Result<Contents, Refusa
     })
 }
 
-// The packets inside from the first on, once packet n with its a, b and c is counted too. `pack` asks the same of a packet of a pack: one function
-// for both would be public, for a comparison in each.
+// The packets inside from the first on, once packet n with its a, b and c is counted too. They stay three: a packet is they and its bytes, which only the
+// second turn reads. `pack` asks the same of a packet of a pack: one function for both would be public, for a comparison in each.
 fn inside_next(sh: Shape, n: u64, inside: u64, a: usize, b: usize, c: usize) -> u64
     requires { (inside ≤ n) × (n ≤ 4294967295) }
     ensures { InsideNext sh n inside a b c result }

@@ -8,9 +8,6 @@ use lib.Seq.{drop-drop}
 use Rattle.printing.proofs.Appending.{append-paste, append-full}
 use Rattle.printing.proofs.append.Goals as goal
 
-pub returns-then-room-at : goal.returns-then-room-at
-returns-then-room-at c = append-full _ _ _ c.if-room-at.true
-
 pub returns : goal.returns
 returns c =
     let h = c.args in

@@ -4,9 +4,6 @@ use Rattle.receive.proofs.Endings.{outcome_fits}
 use Rattle.receive.proofs.Writing.{text-written}
 use Rattle.receive.proofs.run.Goals as goal
 
-pub write_pieces-requires : goal.write_pieces-requires
-write_pieces-requires g c = c.deref_mut-2.ensures.len ∙ c.in_ok-out.ensures.len
-
 pub invariant_of-text : goal.invariant_of-text
 invariant_of-text g c =
     record {

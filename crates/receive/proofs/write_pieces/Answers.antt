@@ -7,11 +7,6 @@ use Rattle.receive.proofs.write_pieces.Goals as goal
 pub loop-k-init : goal.loop-k-init
 loop-k-init g c = (c.requires, appends_none _ _ _ _)
 
-pub piece-end-requires : goal.piece-end-requires
-piece-end-requires g c =
-    let e = c.count-k-end.ensures in
-    (c.loop-k.invariant.0, omega arith)
-
 pub loop-k-preserved : goal.loop-k-preserved
 loop-k-preserved g c = (
   c.piece-end.auto.out ∙ c.loop-k.invariant.0,

@@ -18,10 +18,6 @@ returns-then-bytes-gt-LIMIT c = let p = c.requires in large-input _ _ _ p.3 p.4.
 pub overflow_sub-room : goal.overflow_sub-room
 overflow_sub-room c = (fits (goal.at.overflow_sub-room c).Else-bytes-gt-LIMIT).1
 
-pub slice_bounds-receive_pack-end-2 : goal.slice_bounds-receive_pack-end-2
-slice_bounds-receive_pack-end-2 c =
-    sym (length-take-le _ _ (omega (arith, c.requires.0)))
-
 pub slice_bounds-receive_pack-end-3 : goal.slice_bounds-receive_pack-end-3
 slice_bounds-receive_pack-end-3 c = omega (arith, (fits (goal.at.slice_bounds-receive_pack-end-3 c).Else-bytes-gt-LIMIT).0, c.requires.1)
 

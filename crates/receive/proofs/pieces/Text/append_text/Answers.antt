@@ -5,7 +5,7 @@ use lib.Seq.{length-take-le}
 use mathlib.Core.Logic.{inl, inr}
 use Rattle.printing.proofs.Appending.{append-nothing}
 use Rattle.receive.specs.Printed.{came_text, text_of}
-use Rattle.receive.proofs.Endings.{file-texts, left-texts, byte-taken, texts-fit}
+use Rattle.receive.proofs.Endings.{file-texts, byte-taken, texts-fit}
 use Rattle.receive.proofs.pieces.Text.append_text.Goals as goal
 
 pub slice_bounds-append_byte-end : goal.slice_bounds-append_byte-end
@@ -18,14 +18,6 @@ append_byte-requires c =
     let a = c.args.self.now in
     let n = file-texts _ _ c.in-Came.is _ c.in-File.is in
     rw (length-take-le c.in-File.n a.file.now (omega (arith, n, texts-fit _ a.fits, a.file_whole))) (omega (arith, n, c.requires.1))
-
-pub append_cell-requires : goal.append_cell-requires
-append_cell-requires c =
-    let a = c.args.self.now in (
-      omega (arith, left-texts _ _ c.in-Came.is _ c.in-Left.is, texts-fit _ a.fits, a.flags_whole, c.requires.1),
-      (a.fits _ c.in-Came.is).valid,
-      c.requires.0,
-    )
 
 pub returns-in-TooBig : goal.returns-in-TooBig
 unfolding text_of

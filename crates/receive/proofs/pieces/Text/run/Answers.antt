@@ -8,18 +8,10 @@ use Rattle.receive.proofs.Joining.{joined-none, joined-more}
 use Rattle.receive.proofs.Lengths.{run_fits}
 use Rattle.receive.proofs.pieces.Text.run.Goals as goal
 
-pub overflow_sub-texts : goal.overflow_sub-texts
-overflow_sub-texts c = omega (arith, c.texts.ensures, c.requires.1)
-
 pub loop-i-init : goal.loop-i-init
 loop-i-init c =
     let a = c.args.self.now in
     joined-none _ (text_of a.flags.now a.file.now a.outcome) c.args.from
-
-pub append_text-at-requires : goal.append_text-at-requires
-append_text-at-requires c =
-    let inv = c.loop-i.invariant in
-    (rw inv.size inv.inside, omega (arith, c.texts.ensures, c.min-count.ensures))
 
 pub loop-i-preserved : goal.loop-i-preserved
 loop-i-preserved c =
