@@ -102,6 +102,7 @@ fn decode(text: &[u8], out: &mut [u8], from: usize, to: usize, n: usize)
 }
 
 // The value of a hexadecimal digit in lower case, without a branch.
+#[tactic(auto, unfolding(crate::specs::Inner::Lines::hex_value))]
 fn value(c: u8) -> u8
     ensures { result ≡ hex_value c }
 {
