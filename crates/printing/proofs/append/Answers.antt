@@ -5,7 +5,7 @@ use Prim.Native.Nat.{◌+◌, ◌-◌}
 use native.Mathlib.Omega.{arith}
 use lib.ListN.{take, drop}
 use lib.Seq.{drop-drop}
-use Rattle.printing.proofs.Appending.{append-paste, append-full}
+use Rattle.printing.proofs.Appending.{append-paste}
 use Rattle.printing.proofs.append.Goals as goal
 
 pub returns : goal.returns
