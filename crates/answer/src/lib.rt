@@ -70,7 +70,8 @@ pub fn number(f: Refusal) -> u64
     }
 }
 
-// The place that a refusal names, the index of a packet, the number of a line or an offset; 0 where it names none.
+// The place that a refusal names, the index of a packet, the number of a line or an offset; 0 where it names none. No Option: `place_of`, of which the words
+// that C gets are made, has 0 there.
 #[tactic(auto, unfolding(crate::specs::Values::place_of, crate::specs::Values::refusal))]
 pub fn place(f: Refusal) -> u64
     ensures { result ≡ place_of {A = Unit} (refusal f) }

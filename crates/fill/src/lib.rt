@@ -38,7 +38,7 @@ fn fill_missing(cube: &mut [u8], flags: &mut [u8], sh: Shape) -> Result<usize, R
     }
 }
 
-// The checks 1 to 5.
+// The checks 1 to 5. `mend` and `peel` compare these lengths too, each with what else it is lent and with another answer.
 fn check(flags: &[u8], cube_length: usize, sh: Shape) -> Result<(), Refusal>
     ensures { value_of result ≡ checked (flags_checked sh cube_length flags.now) }
 {

@@ -1,5 +1,5 @@
 // The passes over a cube. The run of a line is written out in each, as in `cube`, `peel` and `fill`, in its own width: a function of all four would be
-// public, ask nothing of its caller, and test each product.
+// public, ask nothing of its caller, and test each product. The reduction byte is a parameter: `Pass` and its laws are over each that is primitive.
 ghost use Rattle.shape.specs.Shapes.{IsAxis};
 ghost use Rattle.data.specs.Data.{IsCube};
 ghost use Rattle.mend.specs.Mend.{Pass};
@@ -15,6 +15,7 @@ pub(crate) fn first_pass(cube: &[u8], second: &mut [u8], reduction: u8, sh: Shap
     let w = sh.w;
     let l1 = sh.l1;
     let row = l1 * w;
+    // Not chunks_exact_mut: std does not say what a slice holds when its chunks have been written.
     for m in 0..sh.l2 * sh.l3 {
         let at = m * row;
         span::copy(cube, second, at, at, row);
@@ -35,7 +36,7 @@ pub(crate) fn pass(cube: &mut [u8], reduction: u8, sh: Shape, axis: usize)
 {
     let w = sh.w;
     let mut m = 0;
-    // No range of numbers: the step, the stride, is known only once the first line is found.
+    // No range of numbers: `axis_line` gives the line and its stride, and its refusal says where the axis ends.
     while let Ok(l) = shape::axis_line(sh, axis, m) {
         let stride = l.stride;
         let run = Run {

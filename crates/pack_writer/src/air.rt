@@ -63,7 +63,8 @@ fn put_section(out: &mut [u8], sh: Shape, count: usize, used: usize) -> Cursor
     }
 }
 
-// Writes a packet's a, b and c at the cursor, and answers the cursor behind them; where they don't fit, nothing changes.
+// Writes a packet's a, b and c at the cursor, and answers the cursor behind them; where they don't fit, nothing changes. No Option: where they end is told
+// always, and it is where they began when nothing was written.
 pub fn write_coordinates(out: &mut [u8], at: Cursor, a: u8, b: u8, c: u8) -> Cursor
     ensures { CoordinatesOutcome out.old at a b c out.new result }
 {

@@ -104,7 +104,8 @@ fn put_bytes(c: Cursor, out: &mut [u8], bytes: &[u8]) -> Cursor
     Cursor { at: at + n }
 }
 
-// The packets of every cell that is sent, row by row: the unsent cells of a row stand together, so they cost nothing each.
+// The packets of every cell that is sent, row by row: the unsent cells of a row stand together, so they cost nothing each. A row is one number, and no pair
+// of loops over b and c: the law of `row_sent` goes by it.
 fn put_rows(cube: &[u8], out: &mut [u8], c: Cursor, h: Header)
     requires { HeaderSent h × (length cube.now ≡ h.shape.w * cells h.shape)
         × (c.at + number (sends h) (cells h.shape) * (3 + h.shape.w) ≤ length out.old) }

@@ -34,7 +34,7 @@ pub(crate) fn put_plan(plan: PlanLists, output: &mut [u8])
     put_section(plan.splices, output, third, plan.splices.len() / 8);
 }
 
-// A count and the entries behind it.
+// A count and the entries behind it. `pack_writer` has such steps within it: public, they would have to ask nothing of their callers.
 fn put_section(list: &[u8], output: &mut [u8], c: Cursor, count: usize) -> Cursor
     requires { c.at + 4 + length list.now ≤ length output.old }
     ensures { Laid output.old c (word_bytes count ++ list.now) output.new result }

@@ -35,7 +35,7 @@ pub(crate) fn kept(closures: &Entries<2>, fibres: &Entries<4>) -> usize
 fn in_order(number: usize, pair: usize, least: usize) -> bool
     ensures { Decides ((1 ≤ number) × (number ≤ 288) × (least ≤ pair)) result }
 {
-    1 <= number && number <= 288 && least <= pair
+    (1..=288).contains(&number) && least <= pair
 }
 
 // Where the walk through the closures stands once it has passed those below the number sought, at most behind the last. A place, from which the

@@ -37,6 +37,7 @@ fn counted(file: &[u8], at: usize) -> Result<Section, Refusal>
         (λ s. (at + 4 ≤ length file.now) × (s.count ≡ word file.now at) × (s.at ≡ at + 4))
         (λ f. (length file.now < at + 4) × (f ≡ Entry at)) }
 {
+    // A cut is told as the byte where it is: by `map_err` the clause for the cut would be one of the closure, and no shorter.
     let Ok((count, next)) = (Cursor { at }).count(file) else {
         return Err(broken(at));
     };

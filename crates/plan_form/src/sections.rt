@@ -57,7 +57,7 @@ pub(crate) fn whole<const SIZE: usize>(file: &[u8], s: Section) -> Entries<'_, S
     let count = s.count.min((file.len() - s.at) / SIZE);
     Entries {
         bytes: file,
-        s: Section { at: s.at, count },
+        s: Section { count, ..s },
     }
 }
 

@@ -7,7 +7,8 @@ ghost use Rattle.plan_form.specs.Inner.Checks.{FirstKept, FibresKept, InRank, Ma
 use crate::numbers::{half, word};
 use crate::sections::Entries;
 
-// Fibres that keep their rules, and the marks of those that are the second of a splice.
+// Fibres that keep their rules, and the marks of those that are the second of a splice, by the fibre's number. The memory is fixed, and a mark is a closure
+// and 1, so that 0 is the mark of none and no Option doubles it.
 #[derive(Drop)]
 struct Marks<'a> {
     fibres: Entries<'a, 4>,

@@ -167,7 +167,8 @@ fn place_repeat(packets: &Packets, cube: &mut [u8], flags: &mut [u8], i: usize) 
     true
 }
 
-// Makes the marked cells missing; the answer is their number. A filter whose count writes as it goes would be no plainer.
+// Makes the marked cells missing; the answer is their number. A filter whose count writes as it goes would be no plainer. `fill` gives marked cells a flag
+// too, and counts others behind it: each is one loop of its crate.
 fn settle(flags: &mut [u8]) -> usize
     ensures remarked { Remarked 1 flags.old flags.new }
     ensures value { result ≡ number (is_marked flags.old) (length flags.old) }

@@ -19,7 +19,8 @@ pub fn second_row(reduction: u8, j: usize, k: usize) -> [u8; 2]
     m[1]
 }
 
-// The inverse of the array m, rows first; where its determinant is 0, all 0.
+// The inverse of the array m, rows first; where its determinant is 0, all 0. No Option: `second_row` is exact for every reduction byte, and `row0` and
+// `row1` have 0 there.
 fn invert(reduction: u8, m: [[u8; 2]; 2]) -> [[u8; 2]; 2]
     ensures { result ≡ inverted reduction (entry m 0 0) (entry m 0 1) (entry m 1 0) (entry m 1 1) }
 {

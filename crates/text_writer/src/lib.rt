@@ -119,7 +119,7 @@ impl Air<'_> {
         printing::append(text, end, b"\n")
     }
 
-    // The length of the text.
+    // The length of the text. No `sum`: that it stays in a machine word is known from turn to turn.
     fn text_length(&self) -> usize
         ensures { let k = self.now.packets in result ≡ length (text_in k.bytes.now (k.header, k.section)) }
     {
