@@ -1,7 +1,5 @@
 -- `rows::gathered` decides whether all rows are right: the last by itself, which shows that all lie inside, then strip by strip.
-use Prim.Native.Nat.{◌-◌}
-use native.Mathlib.Omega.{arith}
-use Rattle.span.proofs.Decision.{decides-no, decides-map, decides-false, decides-true}
+use Rattle.span.proofs.Decision.{decides-map, decides-true}
 use Rattle.rows.proofs.Moving.{rows_all, all-rows}
 use Rattle.rows.proofs.gathered.Goals as goal
 
@@ -9,8 +7,3 @@ pub returns-then-codewords : goal.returns-then-codewords
 returns-then-codewords c =
     decides-map (rows_all _ _ _ _ _ (decides-true (rw c.moved.ensures at c.codewords.ensures) c.if-codewords.true).inside) (all-rows _ _ _ _ _)
     c.by_strips.ensures
-
-pub returns-else-codewords : goal.returns-else-codewords
-returns-else-codewords c =
-    rw c.if-codewords.false
-    (decides-no (λ h. decides-false (rw c.moved.ensures at c.codewords.ensures) c.if-codewords.false (h (c.args.count - 1) (omega arith))))

@@ -1,7 +1,5 @@
 -- `line::block::solve_block` writes both erasures of each line of a block from the syndromes of the erased lines.
-use mathlib.Core.Path.{refl, ◌∙◌}
 use native.Mathlib.Omega.{arith}
-use Rattle.line.proofs.Parts.{inside-size}
 use Rattle.line.proofs.Solving.{places-inside, places-width, combining-end, combining-cleared}
 use Rattle.line.proofs.block.solve_block.Goals as goal
 
@@ -16,11 +14,6 @@ combine-requires c =
 
 pub returns-then-erased_to_end : goal.returns-then-erased_to_end
 returns-then-erased_to_end c = combining-end c.requires.0.1 (c.erased_to_end.ensures.yes_then c.if-erased_to_end.true) c.first_places.ensures c.combine.ensures
-
-pub combine-requires-2 : goal.combine-requires-2
-combine-requires-2 c =
-    let inside = inside-size c.requires.0.0 (c.clear-2.ensures.kept.size ∙ c.clear.ensures.kept.size) in
-    (inside, refl, (inside, c.requires.0.1, c.requires.0.2), c.requires.1)
 
 pub returns : goal.returns
 returns c = combining-cleared c.requires.0.0.apart c.clear.ensures c.clear-2.ensures c.combine-2.ensures

@@ -3,16 +3,10 @@ use mathlib.Core.Path.{sym, ap, ◌∙◌}
 use Prim.Native.Nat.{ℕ}
 use native.Mathlib.Omega.{arith}
 use Rattle.line.specs.Line.{syndrome0, syndrome1}
-use Rattle.line.proofs.Tails.{empty-replicate}
 use Rattle.line.proofs.Parts.{changed-none, changed-more, changed-all, line-later, inside-size}
 use Rattle.line.proofs.Correction.{corrected-changed, changed-corrected}
 use Rattle.line.proofs.corrector.correct_lines.Goals as goal
 use Rattle.line.proofs.corrector.correct_lines.Goals.{Start}
-
-pub syndromes-requires : goal.syndromes-requires
-syndromes-requires g c =
-    let pre = c.requires in
-    (omega arith, (pre.0, empty-replicate _ _ _ pre.1.lines c.zeros-sums.ensures.first, empty-replicate _ _ _ pre.1.lines c.zeros-sums.ensures.second, pre.1))
 
 pub loop-t-init : goal.loop-t-init
 loop-t-init g c = changed-none _ _ _ _

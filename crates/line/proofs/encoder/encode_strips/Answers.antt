@@ -1,21 +1,14 @@
 -- `line::encoder::encode_strips` encodes strip after strip; the last one may reach back into lines that are done.
-use mathlib.Core.Path.{◌∙◌}
 use Prim.Native.Nat.{ℕ, ◌+◌, ◌-◌, ◌≤◌}
 use native.Mathlib.Omega.{arith}
 use Rattle.line.specs.Run.{Encoded}
 use Rattle.line.specs.Inner.Block.{front}
-use Rattle.line.proofs.Parts.{inside-size}
 use Rattle.line.proofs.Encoding.{encoded-none, encoded-strip, encoded-all}
 use Rattle.line.proofs.encoder.encode_strips.Goals as goal
 use Rattle.line.proofs.encoder.encode_strips.Goals.{Start, After-encode_strip-2, else-loop-done-test, then-loop-done-test+else-last-done-gt64}
 
 pub loop-done-init : goal.loop-done-init
 loop-done-init c = (omega arith, encoded-none _ _ _ _ _)
-
-pub encode_strip-requires : goal.encode_strip-requires
-encode_strip-requires c =
-    let pre = c.requires in
-    (inside-size pre.0 c.loop-done.invariant.1.size, pre.1, pre.2, omega arith)
 
 pub loop-done-preserved : goal.loop-done-preserved
 loop-done-preserved c =
@@ -24,11 +17,6 @@ loop-done-preserved c =
       omega arith,
       encoded-strip start.args.from start.args.to turn.done turn.done 64 turn.invariant.1 c.encode_strip.ensures (omega arith) (omega arith) (omega (arith, start.requires.0.apart)),
     )
-
-pub encode_strip-requires-2 : goal.encode_strip-requires-2
-encode_strip-requires-2 c =
-    let pre = c.requires in
-    (inside-size pre.0 (c.loop-done-test.auto.s ∙ c.loop-done.auto.s), pre.1, pre.2, omega arith)
 
 -- the last strip, behind those that are done
 rest :

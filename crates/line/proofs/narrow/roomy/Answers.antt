@@ -6,15 +6,6 @@ use Rattle.line.proofs.Parts.{roomy-last}
 use Rattle.line.proofs.narrow.roomy.Goals as goal
 use Rattle.line.proofs.narrow.roomy.Goals.{Start}
 
-pub overflow_mul-last : goal.overflow_mul-last
-overflow_mul-last c = let start = (goal.at.overflow_mul-last c).Start in omega (arith, start.requires.fits (start.args.run.len - 1) (omega (arith, start.requires.some_place)))
-
-pub overflow_add-last : goal.overflow_add-last
-overflow_add-last c = let start = (goal.at.overflow_add-last c).Start in omega (arith, start.requires.fits (start.args.run.len - 1) (omega (arith, start.requires.some_place)))
-
-pub overflow_sub-result : goal.overflow_sub-result
-overflow_sub-result c = let start = (goal.at.overflow_sub-result c).Start in omega (arith, start.requires.fits (start.args.run.len - 1) (omega (arith, start.requires.some_place)))
-
 pub returns-then-run-ge6 : goal.returns-then-run-ge6
 returns-then-run-ge6 c =
     let start = (goal.at.returns-then-run-ge6 c).Start in

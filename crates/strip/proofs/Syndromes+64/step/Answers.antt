@@ -15,12 +15,3 @@ loop-t-preserved c =
       λ e. updated-more (inv.2 e) _ _ (omega arith) (omega arith) refl refl,
       λ e. updated-more (inv.3 e) _ _ (omega arith) (omega arith) (rw c.xtime.ensures) refl,
     )
-
-pub returns : goal.returns
-returns c =
-    record {
-      size0 = c.loop-t.invariant.0;
-      size1 = c.loop-t.invariant.1;
-      first = λ e t h. (c.loop-t.invariant.2 e).done t (omega arith) (omega arith);
-      second = λ e t h. (c.loop-t.invariant.3 e).done t (omega arith) (omega arith);
-    }
