@@ -12,6 +12,7 @@ use Rattle.line.specs.declared.Run.{Run}
 use Rattle.line.specs.Line.{Codeword}
 use Rattle.line.specs.Run.{Inside, Off, line_at}
 use Rattle.line.specs.Inner.Block.{part, front, Block, Cover, Roomy}
+use Rattle.line.specs.Inner.Blocks.{Widened}
 use Rattle.line.proofs.Geometry.{stride-below, off-place}
 
 -- ---- parts of a run
@@ -34,22 +35,6 @@ part-block {run} {next} {a} {w} e some enough few within =
     subst (Block run a) (sym e)
     (record { lines = refl; some_line = some; enough_lines = enough; few_lines = few; within = within })
 
--- where a block is short, the last 64 lines take its place
-pub part-cover :
-    {run next last : Run} {a : ℕ} → Block run a next → next.width < 64 → 64 ≤ run.width → a < run.width →
-    last ≡ part run (run.width - 64) 64 → Cover run a last
-unfolding part
-part-cover {run} {next} {last} {a} b short long some e =
-    subst (Cover run a) (sym e)
-    (record {
-      start = run.width - 64;
-      lines = refl;
-      begins = omega (arith, b.enough_lines);
-      ends = omega arith;
-      few_lines = omega arith;
-      within = omega arith;
-    })
-
 -- a block of a run begins where it is to
 pub block-cover : {run next : Run} {a : ℕ} → Block run a next → Cover run a next
 block-cover {run} {next} {a} b =
@@ -62,6 +47,30 @@ block-cover {run} {next} {a} b =
       within = b.within;
     }
 
+-- a block of fewer than 64 lines is the last one, and the last 64 lines take its place
+pub widened-last :
+    {run b last : Run} {a : ℕ} → Block run a b → b.width < 64 → 64 ≤ run.width → last ≡ part run (run.width - 64) 64 →
+    Widened run a b last
+unfolding part
+widened-last {run} {b} {last} {a} h short long e =
+    subst (Widened run a b) (sym e)
+    (record {
+      cover =
+          record {
+            start = run.width - 64;
+            lines = refl;
+            begins = omega (arith, h.enough_lines);
+            ends = omega (arith, h.some_line, h.within);
+            few_lines = omega arith;
+            within = omega arith;
+          };
+      ends = omega (arith, h.enough_lines, h.within);
+    })
+
+pub widened-none : {run b : Run} {a : ℕ} → Block run a b → Widened run a b b
+unfolding block-cover
+widened-none h = record { cover = block-cover h; ends = refl }
+
 pub cover-inside : (run next : Run) (n a : ℕ) → Inside run n → Cover run a next → Inside next n
 cover-inside run next n a h b =
     subst (λ (x : Run). Inside x n) (sym b.lines) (part-inside run n b.start next.width h b.within)
@@ -69,16 +78,6 @@ cover-inside run next n a h b =
 pub cover-place : (run next : Run) (a k : ℕ) → Cover run a next → k < run.len → k < next.len
 unfolding part
 cover-place run next a k b h = subst (λ (x : Run). k < x.len) (sym b.lines) h
-
-pub cover-first : {run next : Run} {a : ℕ} (b : Cover run a next) → next.first ≡ run.first + b.start
-unfolding part
-cover-first b = ap (λ (x : Run). x.first) b.lines
-
--- how many lines are done after a block, as the code computes it
-pub cover-done :
-    {run next : Run} {a : ℕ} (b : Cover run a next) →
-    b.start + next.width ≡ next.first - run.first + next.width
-cover-done b = omega (arith, cover-first b)
 
 -- what lies inside a list lies inside one of the same length
 pub inside-size : {run : Run} {n m : ℕ} → Inside run n → m ≡ n → Inside run m
@@ -211,16 +210,19 @@ module _ (Q : ℕ → ℕ → Type 0) (P : ℕ → (ℕ → ℕ) → (ℕ → �
   -- lines that begin among the first ones, where the change looks at no place that may change
   pub changed-over :
       ((n : ℕ) (c c' d : ℕ → ℕ) → ((i : ℕ) → (Q n i → ⊥) → c i ≡ c' i) → P n c' d → P n c d) →
-      {n a : ℕ} {next : Run} {before mid after : List ℕ} → Inside run n → (b : Cover run a next) →
+      {n a : ℕ} {block next : Run} {before mid after : List ℕ} → Inside run n → Widened run a block next →
       Changed Q P (front run a) before mid → Changed Q P next mid after →
-      Changed Q P (front run (next.first - run.first + next.width)) before after
-  changed-over again {n} {a} {next} {before} {mid} {after} h b one two =
-      subst (λ (x : ℕ). Changed Q P (front run x) before after) (cover-done b)
+      Changed Q P (front run (a + block.width)) before after
+  changed-over again {n} {a} {block} {next} {before} {mid} {after} h wide one two =
+      subst (λ (x : ℕ). Changed Q P (front run x) before after) wide.ends
       (changed-both b.start a next.width b.begins (omega (arith, b.ends)) b.within h.apart one
       (subst (λ (x : Run). Changed Q P x mid after) b.lines two)
       (λ t m l x. again run.len (line_at before run t) (line_at mid run t) (line_at after run t)
       (same t (omega (arith, b.within, h.apart))) x))
     where
+      b : Cover run a next
+      b = wide.cover
+
       narrow : a ≤ run.stride
       narrow = omega (arith, b.ends, b.within, h.apart)
 
@@ -250,18 +252,19 @@ module _ (r : ℕ) (s : List ℕ) {run next : Run} {a : ℕ} (b : Cover run a ne
       Codeword r (line_at s next t) next.len
   codewords-block h t l = block-line t (h (b.start + t) (omega (arith, b.within)))
 
-  -- the first lines and the next block's
-  pub codewords-more :
-      ((t : ℕ) → t < a → Codeword r (line_at s run t) run.len) →
-      ((t : ℕ) → t < next.width → Codeword r (line_at s next t) next.len) → (t : ℕ) →
-      t < next.first - run.first + next.width → Codeword r (line_at s run t) run.len
-  codewords-more h g t l =
-      elim (dec_lt t b.start) [
-        | yes m ↦ h t (omega (arith, b.begins))
-        | no m ↦
-            subst (λ (x : ℕ). Codeword r (line_at s run x) run.len) (omega arith)
-            (line-block (t - b.start) (g (t - b.start) (omega (arith, cover-done b))))
-      ]
+-- the first lines and a widened block's
+pub codewords-more :
+    (r : ℕ) (s : List ℕ) {run block next : Run} {a : ℕ} (b : Widened run a block next) →
+    ((t : ℕ) → t < a → Codeword r (line_at s run t) run.len) →
+    ((t : ℕ) → t < next.width → Codeword r (line_at s next t) next.len) → (t : ℕ) →
+    t < a + block.width → Codeword r (line_at s run t) run.len
+codewords-more r s {run} b h g t l =
+    elim (dec_lt t b.cover.start) [
+      | yes m ↦ h t (omega (arith, b.cover.begins))
+      | no m ↦
+          subst (λ (x : ℕ). Codeword r (line_at s run x) run.len) (omega arith)
+          (line-block r s b.cover (t - b.cover.start) (g (t - b.cover.start) (omega (arith, b.ends))))
+    ]
 
 -- 64 lines have room, and so has any place of a run whose last one has
 pub roomy-inside : {run : Run} {n : ℕ} → Inside run n → 64 ≤ run.width → Roomy run n

@@ -1,11 +1,13 @@
 // A run of neighbouring lines, block by block: strips of 64 lines, wide blocks where the run is wide and its lines are long, a narrow block where
 // it has fewer than 64 lines.
-ghost use Rattle.std.specs.Prelude.{◌≡◌, ℕ, ◌+◌, ◌*◌, ◌^◌, ◌<◌, ◌≤◌, length};
+ghost use Rattle.std.specs.Prelude.{◌≡◌, ℕ, ◌+◌, ◌-◌, ◌*◌, ◌^◌, ◌<◌, ◌≤◌, length};
+ghost use Rattle.std.specs.Iterator.{at_most};
 ghost use Rattle.line.specs.Line.{Codeword};
 ghost use Rattle.line.specs.Run.{Inside, Erasable, ErasuresWritten, line_at};
 ghost use Rattle.span.specs.Decision.{Decides};
 ghost use Rattle.span.specs.Span.{SetTo};
-ghost use Rattle.line.specs.Inner.Block.{Block, Cover, ToEnd, Combining, part, places};
+ghost use Rattle.line.specs.Inner.Block.{Block, ToEnd, Combining, part, places};
+ghost use Rattle.line.specs.Inner.Blocks.{Widened, cuts};
 
 use crate::{Erasures, Run, narrow, strips, wide};
 
@@ -30,17 +32,62 @@ impl Run {
     }
 }
 
+// The blocks of a run one after the other, once the first `done` lines are done.
+#[derive(Clone, Copy)]
+pub(crate) struct Blocks {
+    run: Run,
+    done: usize,
+}
+
+impl Blocks {
+    pub(crate) fn of(run: Run) -> Blocks
+        ensures { (result.run ≡ run) × (result.done ≡ 0) }
+    {
+        Blocks { run, done: 0 }
+    }
+}
+
+impl Iterator for Blocks {
+    type Item = Run;
+
+    ghost can_next = { λ s. s.run.first + s.run.width < 2 ^ 64 };
+
+    ghost next_gives = { cuts };
+
+    ghost remaining = { λ s. at_most (s.run.width - s.done) };
+
+    fn next(&mut self) -> Option<Run> {
+        let Blocks { run, done } = *self;
+        if run.width <= done {
+            return None;
+        }
+        let b = block_after(run, done);
+        self.done += b.width;
+        Some(b)
+    }
+}
+
+// The block that follows the lines that are done. Where many long lines lie side by side, 4096 are taken together, so that memory is
+// read in long pieces; else 64, whose syndromes stay in registers.
+fn block_after(run: Run, done: usize) -> Run
+    requires { (done < run.width) × (run.first + run.width < 2 ^ 64) }
+    ensures { Block run done result }
+{
+    let most: usize = if 16 < run.len && 4096 <= run.width {
+        4096
+    } else {
+        64
+    };
+    run.lines_from(done, most.min(run.width - done))
+}
+
 // Writes both erasures of every line of the run.
 pub(crate) fn solve_blocks(s: &mut [u8], reduction: u8, run: Run, e: Erasures)
     requires { Erasable run e (length s.old) }
     ensures { ErasuresWritten reduction run e s.old s.new }
 {
-    let mut done = 0;
-    // Blocks differ in width and may reach back, so that no range steps over them.
-    while done < run.width {
-        let next = next_block(run, done);
-        solve_block(s, reduction, next, e);
-        done = next.first - run.first + next.width;
+    for b in Blocks::of(run) {
+        solve_block(s, reduction, widened(run, b), e);
     }
 }
 
@@ -85,14 +132,10 @@ pub(crate) fn codeword_blocks(s: &[u8], reduction: u8, run: Run) -> bool
     requires { Inside run (length s.now) }
     ensures { Decides ((t : ℕ) → t < run.width → Codeword reduction (line_at s.now run t) run.len) result }
 {
-    let mut done = 0;
-    // As above, no range steps over the blocks.
-    while done < run.width {
-        let next = next_block(run, done);
-        if !codeword_block(s, reduction, next) {
+    for b in Blocks::of(run) {
+        if !codeword_block(s, reduction, widened(run, b)) {
             return false;
         }
-        done = next.first - run.first + next.width;
     }
     true
 }
@@ -110,32 +153,17 @@ pub(crate) fn codeword_block(s: &[u8], reduction: u8, run: Run) -> bool
     }
 }
 
-// The next block of the run once `done` lines are done. Where fewer than 64 lines are left, the last 64 are taken: a block may reach
-// back into lines that are done, which stay as they are, so that few blocks have another width than the fast ones.
-fn next_block(run: Run, done: usize) -> Run
-    requires { (done < run.width) × (run.first + run.width < 2 ^ 64) }
-    ensures { Cover run done result }
+// A block that has fewer than 64 lines is the last one. Where the run has as many, its last 64 lines take the place of the block's: they reach back
+// into lines that are done, which stay as they are, so that few blocks have another width than the fast ones.
+fn widened(run: Run, b: Run) -> Run
+    requires { run.first + run.width < 2 ^ 64 }
+    ensures { (a : ℕ) → Block run a b → Widened run a b result }
 {
-    let next = block_after(run, done);
-    if next.width < 64 && 64 <= run.width {
+    if b.width < 64 && 64 <= run.width {
         run.lines_from(run.width - 64, 64)
     } else {
-        next
+        b
     }
-}
-
-// The block that follows the lines that are done. Where many long lines lie side by side, 4096 are taken together, so that memory is
-// read in long pieces; else 64, whose syndromes stay in registers.
-pub(crate) fn block_after(run: Run, done: usize) -> Run
-    requires { (done < run.width) × (run.first + run.width < 2 ^ 64) }
-    ensures { Block run done result }
-{
-    let most: usize = if 16 < run.len && 4096 <= run.width {
-        4096
-    } else {
-        64
-    };
-    run.lines_from(done, most.min(run.width - done))
 }
 
 // Makes place i of each line of the run 00h.

@@ -5,6 +5,7 @@ ghost use Rattle.line.specs.Run.{Inside, Corrected, line_at};
 ghost use Rattle.line.specs.Inner.Wide.{Room};
 ghost use Rattle.line.specs.Inner.Block.{part};
 
+use crate::block::Blocks;
 use crate::{Run, block, wide};
 
 // Corrects every line of the run, block by block.
@@ -12,12 +13,8 @@ pub(crate) fn correct_blocks(s: &mut [u8], reduction: u8, run: Run)
     requires { Inside run (length s.old) }
     ensures { Corrected reduction run s.old s.new }
 {
-    let mut done = 0;
-    // Blocks differ in width, so that no range steps over them.
-    while done < run.width {
-        let next = block::block_after(run, done);
-        correct_block(s, reduction, next);
-        done += next.width;
+    for b in Blocks::of(run) {
+        correct_block(s, reduction, b);
     }
 }
 
