@@ -1,13 +1,17 @@
 -- Which lines may have changed: the marks of the groups of eight lines. What holds of a line that is quiet goes on holding while no cell on it is
 -- filled, for a filled cell wakes its three lines.
 use mathlib.Core.Path.{◌≡◌, refl, sym, ap, subst, ◌∙◌}
-use mathlib.Core.List.{List}
+use mathlib.Core.Bool.{Bool, true, false, false≢true, ◌&&◌}
+use mathlib.Core.List.{List, [], ◌∷◌}
 use mathlib.Core.Logic.{◌≢◌, ◌⊎◌, inl, inr, ⊎_elim}
 use Prim.Native.Nat.{ℕ, zero, suc, ◌+◌, ◌-◌, ◌*◌, ◌%◌, ◌≤◌, ◌<◌, ◌/◌}
 use native.Mathlib.Nat.{mul-one, one-mul, add-zero, zero-add, mod-one, div-eq_of_lt, zero-mul}
 use native.Mathlib.Decide.{ℕ_discrete, dec_lt}
 use native.Mathlib.Omega.{arith}
-use lib.ListN.{get_or, length, set, replicate, length-replicate, length-set}
+use borrow.Author.Tests.{eqb-true}
+use Rattle.std.specs.List.{fold}
+use lib.Dec.{eqb}
+use lib.ListN.{take, drop, length-take, length-drop, get_or, length, set, replicate, length-replicate, length-set}
 use Rattle.shape.specs.declared.Shape.{Shape}
 use Rattle.shape.specs.Shapes.{Valid, cells, stride_of, length_of, lines_of, first_of}
 use Rattle.shape.proofs.Axes.{lines-few}
@@ -18,7 +22,7 @@ use Rattle.peel.specs.Peel.{Stops}
 use Rattle.peel.specs.Inner.Wake.{mark_at, QuietIn, stretched, Quiet, Awake, Woken, AllQuiet}
 use Rattle.peel.specs.Inner.Sweep.{LineStops, Calm, Keeps}
 use Rattle.std.specs.Prelude.{Option, None, Some, MatchOption}
-use lib.Seq.{get_or-set_same, get_or-set_other}
+use lib.Seq.{get_or-take, get_or-drop, get_or-set_same, get_or-set_other}
 use Rattle.shape.proofs.Missing.{missing-cong}
 
 -- ---- at first every line is awake
@@ -186,6 +190,28 @@ quiet-more {ms} {axis} {from} {g} n a e =
                 subst (λ (p : ℕ). get_or ms p 0 ≡ 71) same (e (h - g) (omega arith))
           ];
     }
+
+-- marks that all pass the test, joined
+quiet-front : (x : ℕ) (xs : List ℕ) → x ≡ 71 → ((k : ℕ) → k < length xs → get_or xs k 0 ≡ 71) → (k : ℕ) → k < length (x ∷ xs) → get_or (x ∷ xs) k 0 ≡ 71
+quiet-front x xs e rest zero l = e
+quiet-front x xs e rest (suc k) l = rest k (omega arith)
+
+both-true : (a b : Bool) → a && b ≡ true → (a ≡ true) × (b ≡ true)
+both-true true b e = (refl, e)
+both-true false b e = absurd (false≢true e)
+
+joined-quiet : (xs : List ℕ) (so : Bool) → fold (λ b x. b && eqb x 71) so xs ≡ true → (so ≡ true) × ((k : ℕ) → k < length xs → get_or xs k 0 ≡ 71)
+joined-quiet [] so e = (e, λ k l. absurd (omega arith))
+joined-quiet (x ∷ xs) so e =
+    let (all, rest) = joined-quiet xs (so && eqb x 71) e in
+    let (first, here) = both-true so (eqb x 71) all in
+    (first, quiet-front x xs (eqb-true x 71 here) rest)
+
+pub part-quiet : (ms : List ℕ) (at n : ℕ) (b : Bool) → b ≡ fold (λ c x. c && eqb x 71) true (take n (drop at ms)) → b ≡ true → at + n ≤ length ms
+    → (i : ℕ) → i < n → get_or ms (at + i) 0 ≡ 71
+part-quiet ms at n b same e inside i l =
+    let long : i < length (take n (drop at ms)) = omega (arith, length-take n (drop at ms), length-drop at ms) in
+    sym (get_or-take n (drop at ms) i 0 l ∙ get_or-drop at ms i 0) ∙ (joined-quiet (take n (drop at ms)) true (sym same ∙ e)).1 i long
 
 -- behind groups that are quiet, the first that is not, or none
 pub awake-found : {ms : List ℕ} {axis from mid end : ℕ} (r : Option ℕ) → from ≤ mid → mid ≤ end → AllQuiet ms axis from mid

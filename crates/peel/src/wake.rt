@@ -38,7 +38,8 @@ pub(crate) fn next_awake(
     (past_quiet(marks, axis, from, groups)..groups).find(|g| marks[mark_at(axis, *g)] != QUIET)
 }
 
-// Where to look on from `from`: 32 groups at a time are passed over, since in a sweep that fills little nearly all are quiet.
+// Where to look on from `from`: 32 groups at a time are passed over, since in a sweep that fills little nearly all are quiet. No `find`: std has laws of one
+// over a range, and none of one over a range by steps.
 fn past_quiet(marks: &[u8; 24576], axis: usize, from: usize, groups: usize) -> usize
     requires { IsAxis axis × (from ≤ groups) × (groups ≤ 8192) }
     ensures { (from ≤ result) × (result ≤ groups) × AllQuiet marks.now axis from result }
@@ -51,16 +52,14 @@ fn past_quiet(marks: &[u8; 24576], axis: usize, from: usize, groups: usize) -> u
     groups
 }
 
-// Whether the 32 marks from a place on are those of quiet groups. They are joined by or: without an early exit they are tested at once.
+// Whether the 32 marks from a place on are those of quiet groups. The tests are joined by `&`: without an early exit they are made at once.
 fn all_quiet(marks: &[u8; 24576], at: usize) -> bool
     requires { at + 32 ≤ 24576 }
     ensures { result ≡ true → (i : ℕ) → i < 32 → get_or marks.now (at + i) 0 ≡ 71 }
 {
-    let mut any: u8 = 0;
-    for i in 0..32 {
-        any |= marks[at + i] ^ QUIET;
-    }
-    any == 0
+    marks[at..at + 32]
+        .iter()
+        .fold(true, |so, mark| so & (*mark == QUIET))
 }
 
 // Wakes the three lines through a cell.
