@@ -35,7 +35,9 @@ impl Packets<'_> {
         ensures { let k = self.now in MatchOption result (FirstOff k.bytes.now k.header k.section k.section.count)
             (λ i. FirstOff k.bytes.now k.header k.section i × (i < k.section.count)) }
     {
-        (0..self.section.count).find(|i| self.packet(*i).is_none())
+        // Each loop over packets goes over a copy, whose fields stay in registers.
+        let packets = *self;
+        (0..packets.section.count).find(|i| packets.packet(*i).is_none())
     }
 
     // The first of the packets before `end` that names a cell that is not sent.
@@ -43,7 +45,8 @@ impl Packets<'_> {
         requires { (i : ℕ) → i < end → OnCube self.now.bytes.now self.now.header self.now.section i }
         ensures { FirstUnsent self.now.bytes.now self.now.header self.now.section end result }
     {
-        (0..end).find(|j| self.names_unsent(*j))
+        let packets = *self;
+        (0..end).find(|j| packets.names_unsent(*j))
     }
 
     // Whether packet i names a cell that is not sent.
