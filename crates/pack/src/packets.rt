@@ -35,9 +35,14 @@ impl Packets<'_> {
         ensures { let k = self.now in MatchOption result (FirstOff k.bytes.now k.header k.section k.section.count)
             (λ i. FirstOff k.bytes.now k.header k.section i × (i < k.section.count)) }
     {
-        // Each loop over packets goes over a copy, whose fields stay in registers.
+        // Both loops go over a copy, whose fields stay in registers. By `find` and its closure receiving single bytes took 1.5 times as long.
         let packets = *self;
-        (0..packets.section.count).find(|i| packets.packet(*i).is_none())
+        for i in 0..packets.section.count {
+            if packets.packet(i).is_none() {
+                return Some(i);
+            }
+        }
+        None
     }
 
     // The first of the packets before `end` that names a cell that is not sent.
@@ -46,7 +51,12 @@ impl Packets<'_> {
         ensures { FirstUnsent self.now.bytes.now self.now.header self.now.section end result }
     {
         let packets = *self;
-        (0..end).find(|j| packets.names_unsent(*j))
+        for j in 0..end {
+            if packets.names_unsent(j) {
+                return Some(j);
+            }
+        }
+        None
     }
 
     // Whether packet i names a cell that is not sent.
