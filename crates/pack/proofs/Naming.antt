@@ -1,5 +1,5 @@
 -- Packets as they stand in a pack, and those that name a cell: what the calls answer, and what a pack that was read needs of them.
-use Rattle.std.specs.Prelude.{Option, Some, None, is_some, MatchOption}
+use Rattle.std.specs.Prelude.{Option, Some, None, MatchOption}
 use Rattle.std.specs.Option.{option_or, unwrap_or}
 use mathlib.Core.Path.{◌≡◌, refl, sym, ap, subst, ◌∙◌}
 use mathlib.Core.Bool.{Bool, true, false, cond, false≢true, true≢false}
@@ -180,16 +180,6 @@ place-sent p h s i r = not-true (unsent h ((source p h s).place i)) r.sent
 
 -- ---- check 11
 
--- what the test of a packet's cell says
-pub off-none : (p : List ℕ) (h : Header) (s : Section) (i : ℕ) (r : Option (ℕ × ℕ)) → PacketOutcome p h s i r → is_some r ≡ false
-    → OnCube p h s i → ⊥
-off-none p h s i r (named m) e = absurd (true≢false e)
-off-none p h s i r (unnamed never) e = never
-
-pub on-some : (p : List ℕ) (h : Header) (s : Section) (i : ℕ) (r : Option (ℕ × ℕ)) → PacketOutcome p h s i r → is_some r ≡ true → OnCube p h s i
-on-some p h s i r (named m) e = m
-on-some p h s i r (unnamed never) e = absurd (false≢true e)
-
 -- with every cell sent the coordinates decide
 pub off-outside : (p : List ℕ) (h : Header) (s : Section) (r : ℕ) → FirstOff p h s r
     → ((n : ℕ) → n < cells h.shape → unsent h n ≡ false) → FirstOutside p h s r
@@ -228,23 +218,6 @@ none-unsent p h s r off before =
 -- the first packet that is asked for, or none before the count
 abbrev pub First : Section → (ℕ → Type 0) → Option ℕ → Type 0
 First s P r = MatchOption r (P s.count) (λ i. P i × (i < s.count))
-
--- what the search for it finds
-pub found-off : (p : List ℕ) (h : Header) (s : Section) (r : Option ℕ)
-    → MatchOption r ((k : ℕ) → 0 ≤ k → k < s.count → OnCube p h s k)
-    (λ i. (0 ≤ i) × (i < s.count) × (OnCube p h s i → ⊥) × ((k : ℕ) → 0 ≤ k → k < i → OnCube p h s k))
-    → First s (FirstOff p h s) r
-found-off p h s None all = record { bound = omega arith; before = λ i l. all i (omega arith) l; here = λ l. absurd (omega arith) }
-found-off p h s (Some i) (_, l, here, before) =
-    (record { bound = omega arith; before = λ j less. before j (omega arith) less; here = λ _. here }, l)
-
-pub found-unsent : (p : List ℕ) (h : Header) (s : Section) (end : ℕ) (r : Option ℕ)
-    → MatchOption r ((k : ℕ) → 0 ≤ k → k < end → unsent h ((source p h s).place k) ≡ false)
-    (λ i. (0 ≤ i) × (i < end) × (unsent h ((source p h s).place i) ≡ true)
-    × ((k : ℕ) → 0 ≤ k → k < i → unsent h ((source p h s).place k) ≡ false))
-    → FirstUnsent p h s end r
-found-unsent p h s end None all = λ i l. all i (omega arith) l
-found-unsent p h s end (Some i) (_, l, here, before) = (l, here, λ j less. before j (omega arith) less)
 
 -- with every cell sent it is the answer
 pub outside-sent : (p : List ℕ) (h : Header) (s : Section) (off : Option ℕ) → First s (FirstOff p h s) off

@@ -35,7 +35,14 @@ impl Packets<'_> {
         ensures { let k = self.now in MatchOption result (FirstOff k.bytes.now k.header k.section k.section.count)
             (λ i. FirstOff k.bytes.now k.header k.section i × (i < k.section.count)) }
     {
-        (0..self.section.count).find(|i| self.packet(*i).is_none())
+        // Both loops go over a copy, whose fields stay in registers. By `find` and its closure receiving single bytes took 1.5 times as long.
+        let packets = *self;
+        for i in 0..packets.section.count {
+            if packets.packet(i).is_none() {
+                return Some(i);
+            }
+        }
+        None
     }
 
     // The first of the packets before `end` that names a cell that is not sent.
@@ -43,7 +50,13 @@ impl Packets<'_> {
         requires { (i : ℕ) → i < end → OnCube self.now.bytes.now self.now.header self.now.section i }
         ensures { FirstUnsent self.now.bytes.now self.now.header self.now.section end result }
     {
-        (0..end).find(|j| self.names_unsent(*j))
+        let packets = *self;
+        for j in 0..end {
+            if packets.names_unsent(j) {
+                return Some(j);
+            }
+        }
+        None
     }
 
     // Whether packet i names a cell that is not sent.

@@ -88,9 +88,11 @@ fn place_firsts<const SINGLE: bool>(
     ensures { let k = packets.now in Run k.header (sequence k) k.section.count from result cube.new flags.new 0
         × Stops (sequence k) k.section.count result true }
 {
-    let n = packets.section.count;
+    // A copy, whose fields stay in registers while cells and flags are written; so in `place_repeats`.
+    let own = *packets;
+    let n = own.section.count;
     for i in from..n {
-        if !place_first::<SINGLE>(packets, cube, flags, i) {
+        if !place_first::<SINGLE>(&own, cube, flags, i) {
             return i;
         }
     }
@@ -138,9 +140,10 @@ fn place_repeats(packets: &Packets, cube: &mut [u8], flags: &mut [u8], from: usi
     ensures { let k = packets.now in Run k.header (sequence k) k.section.count from result cube.new flags.new 1
         × Stops (sequence k) k.section.count result false }
 {
-    let n = packets.section.count;
+    let own = *packets;
+    let n = own.section.count;
     for i in from..n {
-        if !place_repeat(packets, cube, flags, i) {
+        if !place_repeat(&own, cube, flags, i) {
             return i;
         }
     }
