@@ -1,8 +1,7 @@
 -- `text::reader::text_pack_bytes` meets its contract. Assumes nothing.
-use native.Mathlib.Omega.{arith}
 use Rattle.answer.proofs.Values.{handed-on}
 use Rattle.text.specs.Text.{size_broken}
-use Rattle.text.proofs.Decoding.{scanned-broken, scanned-whole, packets-few, size-told}
+use Rattle.text.proofs.Decoding.{scanned-broken, scanned-whole, size-told}
 use Rattle.text.proofs.reader.text_pack_bytes.Goals as goal
 
 pub returns-in_err-s : goal.returns-in_err-s
