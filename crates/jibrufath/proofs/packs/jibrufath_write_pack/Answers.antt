@@ -5,6 +5,3 @@ use Rattle.jibrufath.proofs.packs.jibrufath_write_pack.Goals as goal
 
 pub answer_word-requires : goal.answer_word-requires
 answer_word-requires c = rw (write-places c.write_pack.ensures) (omega arith)
-
-pub returns : goal.returns
-returns c = record { value = _; outcome = c.write_pack.ensures; word_packed = c.answer_word.ensures }

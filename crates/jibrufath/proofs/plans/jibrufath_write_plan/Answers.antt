@@ -6,6 +6,3 @@ use Rattle.jibrufath.proofs.plans.jibrufath_write_plan.Goals as goal
 
 pub answer_word-requires : goal.answer_word-requires
 answer_word-requires c = write-plan-lt c.write_plan.ensures (λ (i : ℕ). omega (arith, c.shared_slice_known-1.given i)) (λ (i : ℕ). omega (arith, c.shared_slice_known-2-1.given i))
-
-pub returns : goal.returns
-returns c = record { value = _; outcome = c.write_plan.ensures; word_packed = c.answer_word.ensures }

@@ -7,6 +7,3 @@ use Rattle.jibrufath.proofs.texts.jibrufath_text_bytes.Goals as goal
 
 pub size_word-requires : goal.size_word-requires
 size_word-requires c = rw c.text_bytes.ensures (text-size-lt _ _ refl (λ (i : ℕ). omega (arith, c.shared_slice_known-1.given i)))
-
-pub returns : goal.returns
-returns c = rw c.text_bytes.ensures at c.size_word.ensures

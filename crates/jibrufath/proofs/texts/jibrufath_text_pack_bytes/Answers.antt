@@ -4,6 +4,3 @@ use Rattle.jibrufath.proofs.texts.jibrufath_text_pack_bytes.Goals as goal
 
 pub size_word-requires : goal.size_word-requires
 size_word-requires c = pack-size-lt c.text_pack_bytes.ensures
-
-pub returns : goal.returns
-returns c = record { value = _; outcome = c.text_pack_bytes.ensures; word_packed = c.size_word.ensures }

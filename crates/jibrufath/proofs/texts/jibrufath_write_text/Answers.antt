@@ -7,6 +7,3 @@ use Rattle.jibrufath.proofs.texts.jibrufath_write_text.Goals as goal
 pub answer_word-requires : goal.answer_word-requires
 answer_word-requires c =
     write-text-lt c.write_text.ensures (λ (i : ℕ). omega (arith, c.shared_slice_known-1.given i))
-
-pub returns : goal.returns
-returns c = record { value = _; outcome = c.write_text.ensures; word_packed = c.answer_word.ensures }
