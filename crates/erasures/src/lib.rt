@@ -76,7 +76,8 @@ fn has_flags(flags: &[u8], line: Line) -> bool
     stride * (len - 1) < flags.len() - first
 }
 
-// Looks at a line up to its third missing cell: with three it is not filled, and need not be read on.
+// Looks at a line up to its third missing cell: with three it is not filled, and need not be read on. One loop over the places: a filter over them would be
+// asked three times, and say neither that no fourth is looked for nor how many were read.
 fn look(flags: &[u8], line: Line) -> MissingPlaces
     requires { Places flags.now line.first line.stride line.len }
     ensures scanned { Scanned (missing flags.now) line.first line.stride line.len result.count result.first result.last }

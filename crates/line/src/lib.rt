@@ -1,6 +1,7 @@
 // Lines: both syndromes of many neighbouring lines at once, erasures filled in, codewords written and recognised, single errors
 // corrected. Every public function is total, and exact for every reduction byte, which stays a parameter: the laws are over it. A bool says
-// whether the runs lay inside: there is one way to fail, and each caller knows before that they do.
+// whether the runs lay inside: there is one way to fail, and each caller knows before that they do. A slice and its run stay two parameters: once a
+// method lends the slice that its struct holds, no more than the slice's length is known.
 #![tactic(auto)]
 
 mod block;

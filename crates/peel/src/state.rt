@@ -3,7 +3,8 @@ ghost use Rattle.peel.specs.Peel.{Sized};
 
 use shape::Shape;
 
-// A cube that is being peeled, its flags, and the marks of its lines.
+// A cube that is being peeled, its flags, and the marks of its lines. `Calm` is no ghost field: it does not hold between the mark of a group and the visit of
+// its lines.
 #[derive(Drop)]
 pub(crate) struct Peeling<'a> {
     pub(crate) cube: &'a mut [u8],

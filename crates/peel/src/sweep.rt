@@ -37,6 +37,7 @@ impl<'a> Peeling<'a> {
         let groups = wake::groups(self.shape, axis);
         let mut filled = 0;
         let mut from = 0;
+        // No range of numbers: groups that are quiet are passed over, and a visit wakes others.
         while let Some(g) = wake::next_awake(&self.marks, axis, from, groups) {
             filled += self.group(axis, g);
             from = g + 1;

@@ -1,5 +1,6 @@
 // The marks of peeling: a byte for each group of eight lines of an axis, which says which of them are awake, that is which may have changed since
 // their last visit: a stretch of the group, from one line to another. An axis has at most 65,025 lines, so that 8,192 marks an axis are enough.
+// Bytes, and no type of two places: the memory is fixed, and 32 marks are tested at once.
 ghost use Rattle.std.specs.Prelude.{◌≡◌, true, ℕ, ◌+◌, ◌*◌, ◌/◌, ◌%◌, ◌≤◌, ◌<◌, get_or, set, MatchOption};
 ghost use Rattle.shape.specs.Shapes.{Valid, IsAxis, cells, lines_of};
 ghost use Rattle.peel.specs.Inner.Wake.{mark_at, stretched, Woken, AllQuiet};

@@ -1,4 +1,5 @@
 // Rows: runs of one form, each a fixed number of bytes behind the one before. Where they are narrow, 64 of them are gathered into strips.
+// A run, its gap and a number stay apart: most functions go on with another run, and two with another number.
 #![tactic(auto)]
 
 ghost use Rattle.std.specs.Prelude.{◌≡◌, ◌+◌, ◌*◌, ◌-◌, ◌^◌, ◌<◌, ◌≤◌, length};

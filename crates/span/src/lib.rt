@@ -1,5 +1,6 @@
 // Spans: so many bytes of a slice from a place on, copied, set, compared, tested for 00h. Every public function is total. A bool of `copy` and `set`
-// says whether the spans lay inside: there is one way to fail, and each caller knows before that they do.
+// says whether the spans lay inside: there is one way to fail, and each caller knows before that they do. A place and a number stand beside each slice:
+// of two slices alone a call would have to ask that they are of one length.
 #![tactic(auto)]
 
 ghost use Rattle.std.specs.Prelude.{◌≡◌, ◌+◌, ◌<◌, ◌≤◌, length, take, drop, MatchOption};

@@ -41,7 +41,8 @@ impl<const N: usize> Syndromes<N> {
 
 impl Syndromes<64> {
     // One of Horner's steps, by a place whose bytes are c. Its loops in `line` and `rows` stay apart: a function that called for the bytes of each
-    // place would have to require that it may, and a function that another crate can call requires nothing.
+    // place would have to require that it may, and a function that another crate can call requires nothing. By index: std does not say what an array
+    // holds once an adapter of `iter_mut` has written it.
     pub fn step(&mut self, reduction: u8, c: [u8; 64])
         ensures { Step reduction c self.old.first self.old.second self.new.first self.new.second }
     {
