@@ -63,7 +63,7 @@ fn place_strip(data: &[u8], s: &mut [u8], reduction: u8, from: Run, to: Run) -> 
             from.first + from.stride * i,
             to.first + to.stride * i,
         );
-        sums.step(reduction, c.unwrap());
+        sums.step(reduction, c);
     }
     sums
 }

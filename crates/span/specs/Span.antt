@@ -1,5 +1,5 @@
 -- Spans of bytes of a slice: what copying and setting them leaves, what comparing and testing them answers.
-use Rattle.std.specs.Prelude.{◌≡◌, Bool, List, ℕ, ◌+◌, ◌≤◌, ◌<◌, length, get_or, Option, Some, None}
+use Rattle.std.specs.Prelude.{◌≡◌, Bool, List, ℕ, ◌+◌, ◌≤◌, ◌<◌, length, get_or, replicate}
 use Rattle.span.specs.Decision.{Cases, Guarded}
 
 -- Every byte outside the n bytes from `at` on is kept, and the length.
@@ -36,12 +36,11 @@ abbrev pub CopyOutcome : List ℕ → ℕ → List ℕ → ℕ → ℕ → List 
 CopyOutcome src from before to n after answer =
     Guarded (BothInside src from before to n) (Copied src from before to n after) before after answer
 
--- what `copy_strip` leaves and answers: 64 bytes, which are copied, or nothing
-abbrev pub StripOutcome : List ℕ → ℕ → List ℕ → ℕ → List ℕ → Option (List ℕ) → Type 0
-StripOutcome src from before to after answer =
-    Cases (BothInside src from before to 64)
-    ((c : List ℕ) × (answer ≡ Some c) × Copied src from before to 64 after × Piece src from 64 c)
-    ((answer ≡ None) × (after ≡ before))
+-- what `copy_strip` leaves and answers: 64 bytes, or nothing and 64 times 00h
+abbrev pub StripOutcome : List ℕ → ℕ → List ℕ → ℕ → List ℕ → List ℕ → Type 0
+StripOutcome src from before to after c =
+    Cases (BothInside src from before to 64) (Copied src from before to 64 after × Piece src from 64 c)
+    ((after ≡ before) × (c ≡ replicate 64 0))
 
 -- what `set` leaves
 abbrev pub SetOutcome : List ℕ → ℕ → ℕ → ℕ → List ℕ → Bool → Type 0

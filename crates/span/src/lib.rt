@@ -30,13 +30,15 @@ pub fn copy(src: &[u8], dst: &mut [u8], from: usize, to: usize, n: usize) -> boo
     true
 }
 
-// Copies 64 bytes as `copy` does and answers them, so that whoever sums what is copied need not read it again.
-pub fn copy_strip(src: &[u8], dst: &mut [u8], from: usize, to: usize) -> Option<[u8; 64]>
+// Copies 64 bytes as `copy` does and answers them, so that whoever sums what is copied need not read it again. The answer is 64 times 00h
+// where a span does not lie inside.
+pub fn copy_strip(src: &[u8], dst: &mut [u8], from: usize, to: usize) -> [u8; 64]
     ensures { StripOutcome src.now from dst.old to dst.new result }
 {
-    part(src, from, 64)?;
-    part(dst, to, 64)?;
-    Some(strip(src, dst, from, to))
+    if part(src, from, 64).is_none() || part(dst, to, 64).is_none() {
+        return [0u8; 64];
+    }
+    strip(src, dst, from, to)
 }
 
 // Makes the n bytes from `at` on v, where they lie inside; else changes nothing. By `fill`, which writes the last byte apart, up to 32 bytes

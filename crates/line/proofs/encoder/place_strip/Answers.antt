@@ -1,9 +1,8 @@
 -- `line::encoder::place_strip` copies the data places of 64 lines from the last to the first, and takes Horner's step by each.
-use mathlib.Core.Path.{◌≡◌, refl, sym, ap, ◌∙◌}
+use mathlib.Core.Path.{◌≡◌, refl, ap, ◌∙◌}
 use Prim.Native.Nat.{ℕ, ◌+◌, ◌-◌, ◌*◌, ◌≤◌, ◌<◌}
 use native.Mathlib.Omega.{arith}
 use lib.ListN.{length, length-replicate}
-use Rattle.std.proofs.lemmas.Option.{same_Some}
 use Rattle.line.proofs.Encoding.{between_none, between_more, between-all}
 use Rattle.line.proofs.Tails.{empty-replicate, tails-none, tails-at, tails-one, tails-whole, step-one}
 use Rattle.line.proofs.encoder.place_strip.Goals as goal
@@ -38,11 +37,11 @@ loop-i-preserved c =
     let here : turn.i - 1 < start.args.from.len = omega arith in
     let done = c.copy_strip-c.ensures.done
     (from-strip start (turn.i - 1) here, omega (arith, to-strip start (turn.i - 1) here, turn.invariant.0.size)) in (
-      between_more turn.invariant.0 _ _ (turn.i - 1) (rw wide done.2) start.requires.0.apart (omega arith) (omega arith),
+      between_more turn.invariant.0 _ _ (turn.i - 1) (rw wide done.0) start.requires.0.apart (omega arith) (omega arith),
       c.step.ensures.size0 ∙ turn.invariant.1,
       c.step.ensures.size1 ∙ turn.invariant.2,
       tails-one start.ranges.reduction.fits (λ p. (c.type_inv.«data» p).fits) turn.invariant.3
-          (step-one (omega (arith, start.requires.1.lines)) turn.invariant.1 turn.invariant.2 (rw (same_Some _ _ (sym c.unwrap.ensures ∙ done.1)) done.3) c.step.ensures) (omega arith) (omega arith),
+          (step-one (omega (arith, start.requires.1.lines)) turn.invariant.1 turn.invariant.2 done.1 c.step.ensures) (omega arith) (omega arith),
     )
 
 pub returns : goal.returns
