@@ -1,9 +1,8 @@
 -- `write::print_pack` meets its contract: a job that was read has a header with a size. Assumes nothing.
-use mathlib.Core.Path.{◌≡◌, sym}
+use mathlib.Core.Path.{◌≡◌}
 use mathlib.Core.List.{List}
 use Prim.Native.Nat.{ℕ}
 use native.Mathlib.Omega.{arith}
-use lib.Seq.{length-take-le}
 use mathlib.Core.Logic.{inl, inr}
 use Rattle.answer.specs.Values.{passes}
 use Rattle.pack.specs.declared.Header.{Header}
@@ -39,15 +38,6 @@ returns-then-bytes-gt-LIMIT c =
           let (counts, prints) = pack-too-big-printed _ _ _ _ p.1 p.2 _ _ p.3.1 c.append.ensures (omega arith) in
           record { prefix_len = counts; prints = prints }
     ]
-
-pub slice_bounds-write_pack-end : goal.slice_bounds-write_pack-end
-slice_bounds-write_pack-end c = omega (arith, c.requires.0)
-
-pub slice_bounds-write_pack-end-2 : goal.slice_bounds-write_pack-end-2
-slice_bounds-write_pack-end-2 c = sym (length-take-le _ _ (omega (arith, c.requires.0)))
-
-pub slice_bounds-write_pack-end-4 : goal.slice_bounds-write_pack-end-4
-slice_bounds-write_pack-end-4 c = sym (length-take-le _ _ (omega (arith, c.requires.1)))
 
 pub returns : goal.returns
 returns c =
