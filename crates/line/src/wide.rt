@@ -1,6 +1,6 @@
 // Blocks of up to 4096 neighbouring lines: each place is read as one long piece of memory, four places a pass. The kernel has room for N
 // lines, so that it serves narrow blocks as well.
-ghost use Rattle.std.specs.Prelude.{ℕ, ◌+◌, ◌*◌, ◌/◌, ◌<◌, ◌≤◌, min, length};
+ghost use Rattle.std.specs.Prelude.{ℕ, ◌+◌, ◌*◌, ◌/◌, ◌<◌, ◌≤◌, length};
 ghost use Rattle.line.specs.Line.{Codeword};
 ghost use Rattle.line.specs.Run.{Inside, Erasable, line_at};
 ghost use Rattle.span.specs.Decision.{Decides};
