@@ -16,6 +16,7 @@ pub mod Tails
 mod Zeros
 mod Rows
 mod Parts
+mod Blocks
 mod Solving
 mod Correction
 mod Encoding

@@ -132,12 +132,7 @@ pub(crate) fn codeword_blocks(s: &[u8], reduction: u8, run: Run) -> bool
     requires { Inside run (length s.now) }
     ensures { Decides ((t : ℕ) → t < run.width → Codeword reduction (line_at s.now run t) run.len) result }
 {
-    for b in Blocks::of(run) {
-        if !codeword_block(s, reduction, widened(run, b)) {
-            return false;
-        }
-    }
-    true
+    Blocks::of(run).all(|b| codeword_block(s, reduction, widened(run, b)))
 }
 
 pub(crate) fn codeword_block(s: &[u8], reduction: u8, run: Run) -> bool

@@ -8,7 +8,7 @@ ghost use Rattle.line.specs.Inner.Block.{part};
 use crate::block::Blocks;
 use crate::{Run, block, wide};
 
-// Corrects every line of the run, block by block.
+// Corrects every line of the run, block by block. No block is widened: each line is corrected once.
 pub(crate) fn correct_blocks(s: &mut [u8], reduction: u8, run: Run)
     requires { Inside run (length s.old) }
     ensures { Corrected reduction run s.old s.new }

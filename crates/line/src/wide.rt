@@ -48,8 +48,26 @@ fn ones<const N: usize>(s: &[u8], sums: &mut strip::Syndromes<N>, reduction: u8,
     requires { (Inside run (length s.now)) × (Tails reduction run run.len s.now sums.old.first sums.old.second) × Room run N }
     ensures { Tails reduction run (run.len / 4 * 4) s.now sums.new.first sums.new.second }
 {
-    for i in (run.len / 4 * 4..run.len).rev() {
-        one(s, sums, reduction, run, i);
+    let left = run.len / 4 * 4;
+    // By `for i in (left..run.len).rev()` 5000 lines of 19 places took 2.9 times as many instructions: its fixed step costs `one` its vector form.
+    one_below(s, sums, reduction, run, left + 2);
+    one_below(s, sums, reduction, run, left + 1);
+    one_below(s, sums, reduction, run, left);
+}
+
+// A step by a place that the lines may be too short for.
+fn one_below<const N: usize>(
+    s: &[u8],
+    sums: &mut strip::Syndromes<N>,
+    reduction: u8,
+    run: Run,
+    left: usize,
+)
+    requires { (Inside run (length s.now)) × (Tails reduction run (min (left + 1) run.len) s.now sums.old.first sums.old.second) × Room run N }
+    ensures { Tails reduction run (min left run.len) s.now sums.new.first sums.new.second }
+{
+    if left < run.len {
+        one(s, sums, reduction, run, left);
     }
 }
 
