@@ -65,7 +65,7 @@ cases-refused n r = record { done = λ p. absurd (n p); refused = λ m. r }
 -- `all` over the numbers below n, by a closure whose answer decides P of its number
 pub decides_all : {F : Type 0} {g : Mut F (ℕ × Unit {0}) Bool} (n : ℕ) (u : Range ℕ) (f : F) (answer : Bool) (P : ℕ → Type 0)
     → (xs : List ℕ) × (o : Option ℕ) × (j : F) × YieldsThen nat_range_steps (record { start = 0; end = n }) xs o u
-      × FoldsTo (λ p x q. Called g p (x, tt) true q) f xs j × MatchOption o (answer ≡ true) (λ x. (answer ≡ false) × ((h : F) × Called g j (x, tt) false h))
+    × FoldsTo (λ p x q. Called g p (x, tt) true q) f xs j × MatchOption o (answer ≡ true) (λ x. (answer ≡ false) × ((h : F) × Called g j (x, tt) false h))
     → ((x : ℕ) (b : Bool) (q : F) → Called g f (x, tt) b q → (q ≡ f) × Decides (P x) b)
     → Decides ((k : ℕ) → k < n → P k) answer
 decides_all n u f answer P ran decided =
