@@ -1,5 +1,6 @@
 // Blocks of up to 4096 neighbouring lines: each place is read as one long piece of memory, four places a pass. The kernel has room for N
 // lines, so that it serves narrow blocks as well.
+// Lines are gone through by their number: std does not say what a slice holds once an adapter of `iter_mut` has written it.
 ghost use Rattle.std.specs.Prelude.{ℕ, ◌+◌, ◌*◌, ◌/◌, ◌<◌, ◌≤◌, min, length};
 ghost use Rattle.line.specs.Line.{Codeword};
 ghost use Rattle.line.specs.Run.{Inside, Erasable, line_at};
