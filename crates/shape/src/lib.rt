@@ -89,7 +89,8 @@ pub fn axis_of(sh: Shape, axis: usize) -> Result<Axis, Refusal>
     }
     measure(sh)?;
     let Shape { l1, l2, l3, .. } = sh;
-    // An axis stays a number: the C interface gives it, and every other is refused. The design asks for this match, which picks the stride.
+    // An axis stays a number: the C interface gives it, and every other is refused. The design asks for this match: it picks the stride and the length,
+    // and by them the first cell of each line.
     let (lines, stride, len) = match axis {
         1 => (l2 * l3, 1, l1),
         2 => (l1 * l3, l1, l2),
