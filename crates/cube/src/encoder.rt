@@ -63,6 +63,7 @@ fn complete_across(cube: &mut [u8], reduction: u8, sh: Shape)
     let Shape { l1, l2, l3, w } = sh;
     let row = l1 * w;
     let width = (l1 - 2) * w;
+    // `as`, here and below: there is no From of usize for u8, and a length is at most 255.
     let e = line::erasures_at(reduction, (l3 - 2) as u8, (l3 - 1) as u8);
     for b in 0..l2 - 2 {
         let run = Run {

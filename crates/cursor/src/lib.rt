@@ -36,7 +36,7 @@ impl Cursor {
     }
 }
 
-// The number in the four bytes at a place, low first.
+// The number in the four bytes at a place, low first. `as`: there is no From of u32 for usize.
 fn word(bytes: &[u8], at: usize) -> usize
     requires { at + 4 ≤ length bytes.now }
     ensures { result ≡ word bytes.now at }

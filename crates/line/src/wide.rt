@@ -113,6 +113,7 @@ fn four<const N: usize>(
     }
 }
 
+// A step of `strip::Syndromes<64>` takes its bytes by value; this one reads as many as the run has lines from the slice.
 fn one<const N: usize>(
     s: &[u8],
     sums: &mut strip::Syndromes<N>,

@@ -19,6 +19,7 @@ pub fn air_bytes(sh: Shape, packets: u32) -> Result<usize, Refusal>
     if z.capacity < 4 {
         return Err(Refusal::Plain(Fault::Capacity));
     }
+    // `as`, here and below: there is no From of u32 for usize.
     Ok(size_of(5, packets as usize, sh.w))
 }
 

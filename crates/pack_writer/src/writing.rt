@@ -89,6 +89,7 @@ pub(crate) fn put_shape(out: &mut [u8], c: Cursor, sh: Shape) -> Cursor
     ensures { Laid out.old c (shape_bytes sh) out.new result }
 {
     let [low, high, ..] = sh.w.to_le_bytes();
+    // `as`, here and below: there is no From of usize for u8, and lengths and coordinates are below 256.
     let bytes = [sh.l1 as u8, sh.l2 as u8, sh.l3 as u8, low, high];
     put_bytes(c, out, &bytes)
 }

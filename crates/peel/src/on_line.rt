@@ -94,6 +94,7 @@ fn recover(cube: &mut [u8], sh: Shape, line: Line, e: MissingPlaces, n: usize)
         width: n * w,
     };
     let reduction = field::reduction();
+    // `as`: there is no From of usize for u8, and places are below 255.
     let erasures = line::erasures_at(reduction, e.first as u8, e.last as u8);
     line::solve(cube, reduction, run, erasures);
 }

@@ -81,6 +81,7 @@ fn wake_line(marks: &mut [u8; 24576], m: usize)
     ensures { marks.new ≡ set marks.old (m / 8) (stretched (get_or marks.old (m / 8) 0) (m % 8)) }
 {
     let group = m / 8;
+    // `as`: there is no From of usize for u8.
     marks[group] = stretched(marks[group], (m % 8) as u8);
 }
 

@@ -9,6 +9,7 @@ use cursor::{Cursor, count_bytes};
 use plan_form::PlanLists;
 
 // Whether the lists have whole entries, and an output of so many bytes room for the file and no more. Differences avoid a sum that could wrap.
+// A test and no Result, as in `reading`: one refusal is made of it, where it is asked.
 pub(crate) fn fits(plan: PlanLists, output: usize) -> bool
     ensures { let p = plan.entry in let c = length p.closures.now in let f = length p.fibres.now in let s = length p.splices.now in
         Decides ((c % 2 ≡ 0) × (f % 4 ≡ 0) × (s % 8 ≡ 0) × (output ≡ 12 + c + f + s)) result }

@@ -32,6 +32,7 @@ fn held_length(cube: &[u8], sh: Shape) -> usize
     let mut bytes = [0u8; 4];
     // A data string has at least four bytes here, so that this call does not refuse.
     let _ = data::read_data(cube, &mut bytes, sh, 0, 0, 4);
+    // `as`: there is no From of u32 for usize.
     u32::from_le_bytes(bytes) as usize
 }
 

@@ -23,6 +23,7 @@ pub(crate) fn gather(
         → GatherOutcome reduction k.bytes.now checks cube.old flags.old cube.new flags.new (gathering_value result) (gathering_counts result) }
 {
     if let Some(i) = packets.first_outside() {
+        // `as`: there is no From of usize for u64.
         return Err(Refusal::Packet(PacketFault::CellIndex, i as u64));
     }
     let counts = placing::place(packets, cube, flags);

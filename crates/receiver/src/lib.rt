@@ -69,7 +69,7 @@ pub fn receive_pack(
     })
 }
 
-// Whether the three slices have the lengths that the sizes ask for.
+// Whether the three slices have the lengths that the sizes ask for. A test and no Result: one refusal is made of it, where it is asked.
 fn slices_fit(z: Sizes, bytes: usize, flags: usize, room: usize) -> bool
     requires { 4 ≤ z.capacity }
     ensures { result ≡ both (eqb bytes z.bytes) (both (eqb flags z.cells) (eqb room (z.capacity - 4))) }

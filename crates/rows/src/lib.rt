@@ -95,7 +95,7 @@ fn gather(s: &[u8], at: usize, gap: usize) -> [u8; 64]
     array::from_fn(|t| s[at + gap * t])
 }
 
-// The run that begins so many bytes behind another.
+// The run that begins so many bytes behind another. `line` narrows a run as it moves it, in a function of its own.
 fn moved(run: Run, bytes: usize) -> Run
     requires { run.first + bytes < 2 ^ 64 }
     ensures { result ≡ behind run bytes }

@@ -31,7 +31,7 @@ pub fn copy(src: &[u8], dst: &mut [u8], from: usize, to: usize, n: usize) -> boo
 }
 
 // Copies 64 bytes as `copy` does and answers them, so that whoever sums what is copied need not read it again. The answer is 64 times 00h
-// where a span does not lie inside.
+// where a span does not lie inside. No Option: a public call that answers 64 bytes for every input asks no caller for the other case.
 pub fn copy_strip(src: &[u8], dst: &mut [u8], from: usize, to: usize) -> [u8; 64]
     ensures { StripOutcome src.now from dst.old to dst.new result }
 {
