@@ -33,7 +33,7 @@ fn correct_block(s: &mut [u8], reduction: u8, run: Run)
     }
 }
 
-// One line a turn, with room for the syndromes of N lines.
+// One line a turn, with room for the syndromes of N lines. By the line's number, which `correct_line` is told.
 fn correct_lines<const N: usize>(s: &mut [u8], reduction: u8, run: Run)
     requires { (Inside run (length s.old)) × Room run N }
     ensures { Corrected reduction run s.old s.new }

@@ -37,7 +37,7 @@ pub fn mend(cube: &[u8], flags: &[u8], second: &mut [u8], sh: Shape) -> Result<(
     }
 }
 
-// The checks of one pass.
+// The checks of one pass; the axis by two comparisons, as `within` has them.
 fn check_axis(sh: Shape, axis: usize, cube_length: usize) -> Result<(), Refusal>
     ensures { value_of result ≡ checked (axis_checked sh axis cube_length) }
 {

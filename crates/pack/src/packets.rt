@@ -120,7 +120,7 @@ fn lies_in(len: usize, at: usize, i: usize, size: usize) -> bool
     at <= len && i < (len - at) / size
 }
 
-// The cell that a, b and c name, where they are below their lengths.
+// The cell that a, b and c name, where they are below their lengths; an `if`, as `named_by` has it.
 fn named(sh: Shape, a: u8, b: u8, c: u8, at: usize) -> Option<(usize, usize)>
     requires { (sh.l1 ≤ 255) × (sh.l2 ≤ 255) }
     ensures { result ≡ named_by sh a b c at }

@@ -132,7 +132,7 @@ pub(crate) fn data_cells(sh: Shape) -> usize
     (sh.l1 - 2) * (sh.l2 - 2) * (sh.l3 - 2)
 }
 
-// Whether so many data cells can be in use.
+// Whether so many data cells can be in use: two comparisons, as `within` has them.
 fn in_use(all: usize, used: usize) -> bool
     ensures { result ≡ within 1 all used }
 {

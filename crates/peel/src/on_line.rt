@@ -99,7 +99,8 @@ fn recover(cube: &mut [u8], sh: Shape, line: Line, e: MissingPlaces, n: usize)
     line::solve(cube, reduction, run, erasures);
 }
 
-// Gives the missing cells of n neighbouring lines flag 3, and wakes the lines through them.
+// Gives the missing cells of n neighbouring lines flag 3, and wakes the lines through them. A line, its holes and how many stay three: each function here
+// goes on with other lines.
 fn flag_holes(
     flags: &mut [u8],
     marks: &mut [u8; 24576],

@@ -99,7 +99,7 @@ fn place_firsts<const SINGLE: bool>(
     n
 }
 
-// Places the first packet of a cell. False, and nothing changed, where a copy came before.
+// Places the first packet of a cell. False, and nothing changed, where a copy came before: a test of one packet, whose index its caller has.
 fn place_first<const SINGLE: bool>(
     packets: &Packets,
     cube: &mut [u8],
