@@ -1,5 +1,5 @@
 // Where the bytes of the data string stand in a cube: a row of data cells stands together, and the rows follow in cell order.
-ghost use Rattle.std.specs.Prelude.{◌≡◌, ℕ, ◌+◌, ◌-◌, ◌≤◌, ◌<◌};
+ghost use Rattle.std.specs.Prelude.{ℕ, ◌+◌, ◌-◌, ◌≤◌, ◌<◌};
 ghost use Rattle.shape.specs.Shapes.{Valid, capacity};
 ghost use Rattle.data.specs.Inner.Place.{Standing};
 

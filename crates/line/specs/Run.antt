@@ -69,10 +69,14 @@ abbrev pub EncodeRun : ℕ → Run → Run → List ℕ → List ℕ → List �
 EncodeRun r from to ds before after answer =
     Guarded (Inside to (length before) × Feeds from to (length ds)) (Encoded r from to ds before after) before after answer
 
+-- each line of the run is a codeword
+abbrev pub Codewords : ℕ → Run → List ℕ → Type 0
+Codewords r run s = (t : ℕ) → t < run.width → Codeword r (line_at s run t) run.len
+
 -- The run lies inside the bytes s, and each of its lines is a codeword.
 pub record AllCodewords (r : ℕ) (run : Run) (s : List ℕ) : Type 0 where
   pub inside : Inside run (length s)
-  pub lines : (t : ℕ) → t < run.width → Codeword r (line_at s run t) run.len
+  pub lines : Codewords r run s
 
 -- What `codewords` answers.
 abbrev pub CheckRun : ℕ → Run → List ℕ → Bool → Type 0

@@ -2,11 +2,10 @@
 // it has fewer than 64 lines.
 ghost use Rattle.std.specs.Prelude.{◌≡◌, ℕ, ◌+◌, ◌-◌, ◌*◌, ◌^◌, ◌<◌, ◌≤◌, length};
 ghost use Rattle.std.specs.Iterator.{at_most};
-ghost use Rattle.line.specs.Line.{Codeword};
-ghost use Rattle.line.specs.Run.{Inside, Erasable, ErasuresWritten, line_at};
+ghost use Rattle.line.specs.Run.{Inside, Erasable, ErasuresWritten, Codewords};
 ghost use Rattle.span.specs.Decision.{Decides};
 ghost use Rattle.span.specs.Span.{SetTo};
-ghost use Rattle.line.specs.Inner.Block.{Block, ToEnd, Combining, part, places};
+ghost use Rattle.line.specs.Inner.Block.{Block, ToEnd, Combining, part, places, IsBlock};
 ghost use Rattle.line.specs.Inner.Blocks.{Widened, cuts};
 
 use crate::{Erasures, Run, narrow, strips, wide};
@@ -93,7 +92,7 @@ pub(crate) fn solve_blocks(s: &mut [u8], reduction: u8, run: Run, e: Erasures)
 
 // Where every place from j on is erased, the places before j alone count: no byte at an erasure is read or cleared.
 fn solve_block(s: &mut [u8], reduction: u8, run: Run, e: Erasures)
-    requires { Erasable run e (length s.old) × (run.width ≤ 4096) }
+    requires { Erasable run e (length s.old) × IsBlock run }
     ensures { ErasuresWritten reduction run e s.old s.new }
 {
     if erased_to_end(run, e) {
@@ -115,7 +114,7 @@ fn erased_to_end(run: Run, e: Erasures) -> bool
 
 // The kernel for a block's width. It is picked as in `codeword_block`: one switch for both would take three closures a call.
 fn combine(s: &mut [u8], reduction: u8, read: Run, run: Run, e: Erasures)
-    requires { (Inside read (length s.old)) × (read.width ≡ run.width) × Erasable run e (length s.old) × (run.width ≤ 4096) }
+    requires { (Inside read (length s.old)) × (read.width ≡ run.width) × Erasable run e (length s.old) × IsBlock run }
     ensures { Combining reduction read run e s.old s.new }
 {
     if run.width == 64 {
@@ -130,14 +129,14 @@ fn combine(s: &mut [u8], reduction: u8, read: Run, run: Run, e: Erasures)
 // Whether every line of the run is a codeword.
 pub(crate) fn codeword_blocks(s: &[u8], reduction: u8, run: Run) -> bool
     requires { Inside run (length s.now) }
-    ensures { Decides ((t : ℕ) → t < run.width → Codeword reduction (line_at s.now run t) run.len) result }
+    ensures { Decides (Codewords reduction run s.now) result }
 {
     Blocks::of(run).all(|b| codeword_block(s, reduction, widened(run, b)))
 }
 
 pub(crate) fn codeword_block(s: &[u8], reduction: u8, run: Run) -> bool
-    requires { (Inside run (length s.now)) × (run.width ≤ 4096) }
-    ensures { Decides ((t : ℕ) → t < run.width → Codeword reduction (line_at s.now run t) run.len) result }
+    requires { (Inside run (length s.now)) × IsBlock run }
+    ensures { Decides (Codewords reduction run s.now) result }
 {
     if run.width == 64 {
         strips::codewords(s, reduction, run)

@@ -1,9 +1,9 @@
 // Single-error correction of blocks of neighbouring lines, from their syndromes.
-ghost use Rattle.std.specs.Prelude.{◌≡◌, ◌<◌, ◌≤◌, length};
+ghost use Rattle.std.specs.Prelude.{◌≡◌, ◌<◌, length};
 ghost use Rattle.line.specs.Line.{syndrome0, syndrome1};
 ghost use Rattle.line.specs.Run.{Inside, Corrected, line_at};
 ghost use Rattle.line.specs.Inner.Wide.{Room};
-ghost use Rattle.line.specs.Inner.Block.{part};
+ghost use Rattle.line.specs.Inner.Block.{part, IsBlock};
 
 use crate::block::Blocks;
 use crate::{Run, block, wide};
@@ -20,7 +20,7 @@ pub(crate) fn correct_blocks(s: &mut [u8], reduction: u8, run: Run)
 
 // Most blocks hold codewords alone, and need no more than to be looked at.
 fn correct_block(s: &mut [u8], reduction: u8, run: Run)
-    requires { (Inside run (length s.old)) × (run.width ≤ 4096) }
+    requires { (Inside run (length s.old)) × IsBlock run }
     ensures { Corrected reduction run s.old s.new }
 {
     if block::codeword_block(s, reduction, run) {

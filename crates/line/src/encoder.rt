@@ -1,5 +1,5 @@
 // Lines whose data places stand elsewhere, encoded: each place is copied and summed in the same turn, so that memory and arithmetic work
-// side by side.
+// side by side. The two slices and their runs stay apart: strips go on with parts of both runs, and one slice of the two is written.
 ghost use Rattle.std.specs.Prelude.{◌≡◌, ◌+◌, ◌-◌, ◌≤◌, length};
 ghost use Rattle.line.specs.Run.{Inside, Feeds, Encoded, erasures_at};
 ghost use Rattle.line.specs.Inner.Block.{part, Syndromes};

@@ -1,9 +1,8 @@
 // Narrow blocks, of fewer than 64 neighbouring lines: a strip that reads 64 bytes a place where the slice has them, so that no place ends in
 // single bytes, or else a block of little room.
-ghost use Rattle.std.specs.Prelude.{◌≡◌, true, ℕ, ◌<◌, ◌≤◌, length};
+ghost use Rattle.std.specs.Prelude.{◌≡◌, true, ◌<◌, ◌≤◌, length};
 ghost use Rattle.span.specs.Decision.{Decides};
-ghost use Rattle.line.specs.Line.{Codeword};
-ghost use Rattle.line.specs.Run.{Inside, Erasable, line_at};
+ghost use Rattle.line.specs.Run.{Inside, Erasable, Codewords};
 ghost use Rattle.line.specs.Inner.Block.{Roomy, Combined, Combining};
 
 use crate::{Erasures, Run, strips, wide};
@@ -24,7 +23,7 @@ pub(crate) fn solve(s: &mut [u8], reduction: u8, read: Run, run: Run, e: Erasure
 // Whether each line is a codeword.
 pub(crate) fn codewords(s: &[u8], reduction: u8, run: Run) -> bool
     requires { (Inside run (length s.now)) × (run.width < 64) }
-    ensures { Decides ((t : ℕ) → t < run.width → Codeword reduction (line_at s.now run t) run.len) result }
+    ensures { Decides (Codewords reduction run s.now) result }
 {
     if roomy(s.len(), run) {
         strips::syndromes(s, reduction, run).all_zero(run.width)

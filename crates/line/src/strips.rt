@@ -1,8 +1,7 @@
 // Strips of 64 neighbouring lines: the syndromes stay in registers from the first place to the last.
-ghost use Rattle.std.specs.Prelude.{◌≡◌, ℕ, ◌+◌, ◌<◌, ◌≤◌, length};
+ghost use Rattle.std.specs.Prelude.{◌≡◌, ◌+◌, ◌<◌, ◌≤◌, length};
 ghost use Rattle.span.specs.Span.{Copied, Piece};
-ghost use Rattle.line.specs.Line.{Codeword};
-ghost use Rattle.line.specs.Run.{Inside, Erasable, line_at};
+ghost use Rattle.line.specs.Run.{Inside, Erasable, Codewords};
 ghost use Rattle.span.specs.Decision.{Decides};
 ghost use Rattle.line.specs.Inner.Block.{Syndromes, Combined, Combining, Roomy};
 
@@ -21,7 +20,7 @@ pub(crate) fn solve(s: &mut [u8], reduction: u8, read: Run, run: Run, e: Erasure
 // Whether each line is a codeword.
 pub(crate) fn codewords(s: &[u8], reduction: u8, run: Run) -> bool
     requires { (Inside run (length s.now)) × (run.width ≡ 64) }
-    ensures { Decides ((t : ℕ) → t < run.width → Codeword reduction (line_at s.now run t) run.len) result }
+    ensures { Decides (Codewords reduction run s.now) result }
 {
     syndromes(s, reduction, run).all_zero(64)
 }

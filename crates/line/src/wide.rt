@@ -1,9 +1,8 @@
 // Blocks of up to 4096 neighbouring lines: each place is read as one long piece of memory, four places a pass. The kernel has room for N
 // lines, so that it serves narrow blocks as well.
 // Lines are gone through by their number: std does not say what a slice holds once an adapter of `iter_mut` has written it.
-ghost use Rattle.std.specs.Prelude.{ℕ, ◌+◌, ◌*◌, ◌/◌, ◌<◌, ◌≤◌, min, length};
-ghost use Rattle.line.specs.Line.{Codeword};
-ghost use Rattle.line.specs.Run.{Inside, Erasable, line_at};
+ghost use Rattle.std.specs.Prelude.{◌+◌, ◌*◌, ◌/◌, ◌<◌, min, length};
+ghost use Rattle.line.specs.Run.{Inside, Erasable, Codewords};
 ghost use Rattle.span.specs.Decision.{Decides};
 ghost use Rattle.line.specs.Inner.Wide.{Room, Empty, Tails, One, Four};
 ghost use Rattle.line.specs.Inner.Block.{Syndromes, Combined, Combining};
@@ -23,7 +22,7 @@ pub(crate) fn solve<const N: usize>(s: &mut [u8], reduction: u8, read: Run, run:
 // Whether each line is a codeword.
 pub(crate) fn codewords<const N: usize>(s: &[u8], reduction: u8, run: Run) -> bool
     requires { (Inside run (length s.now)) × Room run N }
-    ensures { Decides ((t : ℕ) → t < run.width → Codeword reduction (line_at s.now run t) run.len) result }
+    ensures { Decides (Codewords reduction run s.now) result }
 {
     let mut sums: strip::Syndromes<N> = strip::Syndromes::zeros();
     syndromes(s, &mut sums, reduction, run);

@@ -1,5 +1,5 @@
 // Writing an air pack of every cell of a cube that is sent: each part from the byte where the one before ended.
-ghost use Rattle.std.specs.Prelude.{◌≡◌, ◌++◌, ◌+◌, ◌-◌, ◌*◌, ◌≤◌, ◌<◌, length, take, drop};
+ghost use Rattle.std.specs.Prelude.{◌≡◌, ◌++◌, ◌+◌, ◌-◌, ◌*◌, ◌≤◌, ◌<◌, length};
 ghost use Rattle.answer.specs.Values.{value_of, checked};
 ghost use Rattle.span.specs.Span.{Put};
 ghost use Rattle.shape.specs.Shapes.{Valid, cells};
@@ -105,6 +105,7 @@ fn put_bytes(c: Cursor, out: &mut [u8], bytes: &[u8]) -> Cursor
     Cursor { at: at + n }
 }
 
+// A header and a cube that are read, a slice that is written and its cursor go on together from here; `HeaderSent` names what is asked of the header.
 // The packets of every cell that is sent, row by row: the unsent cells of a row stand together, so they cost nothing each. A row is one number, and no pair
 // of loops over b and c: the law of `row_sent` goes by it.
 fn put_rows(cube: &[u8], out: &mut [u8], c: Cursor, h: Header)

@@ -4,7 +4,6 @@
 mod reading;
 mod writing;
 
-ghost use Rattle.std.specs.Prelude.{◌≡◌};
 ghost use Rattle.answer.specs.Values.{value_of};
 ghost use Rattle.field.specs.Field.{reduction};
 ghost use Rattle.receiver.specs.Receive.{lent};

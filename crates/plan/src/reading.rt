@@ -1,7 +1,7 @@
 // Reading a plan: room for its entries, and their bytes copied to the lists.
 ghost use Rattle.std.specs.Prelude.{◌≡◌, ◌+◌, ◌*◌, ◌≤◌, length};
 ghost use Rattle.span.specs.Decision.{Decides};
-ghost use Rattle.plan_form.specs.Form.{plan_end, section, lists};
+ghost use Rattle.plan_form.specs.Form.{plan_end, section};
 ghost use Rattle.plan.specs.Calls.{begun};
 
 use plan_form::PlanCounts;

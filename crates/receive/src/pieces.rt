@@ -30,7 +30,7 @@ impl Text<'_> {
         1 + self.texts().div_ceil(512)
     }
 
-    // Puts piece k at the start of `out`, and answers where it ends.
+    // Puts piece k at the start of `out`, and answers where it ends. The end alone: the slice up to it would keep `out` lent.
     pub(crate) fn piece(&self, out: &mut [u8], k: usize) -> usize
         requires { IsMemory out.old × (k < pieces self.now.outcome) }
         ensures prefix_len { IsPrefixLen result out.new }

@@ -1,5 +1,5 @@
 // The file in a whole cube: its length, the zeros behind it, and its bytes.
-ghost use Rattle.std.specs.Prelude.{◌≡◌, ℕ, ◌-◌, ◌*◌, ◌≤◌, ◌<◌, length};
+ghost use Rattle.std.specs.Prelude.{◌≡◌, ℕ, ◌-◌, ◌≤◌, ◌<◌, length};
 ghost use Rattle.answer.specs.Values.{value_of};
 ghost use Rattle.span.specs.Decision.{Decides};
 ghost use Rattle.shape.specs.Shapes.{capacity};

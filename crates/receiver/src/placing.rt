@@ -1,5 +1,5 @@
 // Placing packets: every cell that is sent starts missing, its first packet makes it known, and a copy with other bytes makes it missing for good.
-ghost use Rattle.std.specs.Prelude.{◌≡◌, true, false, ℕ, ◌*◌, ◌≤◌, ◌<◌, length};
+ghost use Rattle.std.specs.Prelude.{◌≡◌, true, false, ◌*◌, ◌≤◌, ◌<◌, length};
 ghost use Rattle.span.specs.Span.{Copied, BothInside};
 ghost use Rattle.shape.specs.Shapes.{Valid, cells, data_cells};
 ghost use Rattle.data.specs.Data.{IsCube};

@@ -1,6 +1,6 @@
 // Flags: one byte a cell, 0 known, 1 missing, 2 known and unsent.
 
-ghost use Rattle.std.specs.Prelude.{◌≡◌, ◌⊎◌, ◌≢◌, ◌≤◌, ◌<◌};
+ghost use Rattle.std.specs.Prelude.{◌≡◌, ◌<◌};
 ghost use Rattle.shape.specs.Flags.{flags_valid, none_missing};
 
 // The flags of a caller: a cell is known, missing, or known and unsent. They are bytes, since C lends them.

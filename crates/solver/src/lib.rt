@@ -33,7 +33,7 @@ fn invert(reduction: u8, m: [[u8; 2]; 2]) -> [[u8; 2]; 2]
     ]
 }
 
-// The place of a single error on a line of length n with the syndromes v0 and v1, or none.
+// The place of a single error on a line of length n with the syndromes v0 and v1, or none. They stand in two arrays, and are used together here alone.
 #[tactic(auto, unfolding(crate::specs::Solver::PlaceOutcome))]
 pub fn error_place(reduction: u8, v0: u8, v1: u8, n: usize) -> Option<usize>
     ensures { PlaceOutcome reduction v0 v1 n result }

@@ -1,5 +1,5 @@
 // The first turn over a text: is it in the form, and what does it hold? Nothing is decoded but the numbers.
-ghost use Rattle.std.specs.Prelude.{◌≡◌, ◌+◌, ◌≤◌, ◌<◌};
+ghost use Rattle.std.specs.Prelude.{◌+◌, ◌≤◌, ◌<◌};
 ghost use Rattle.text.specs.Form.{first_line, Numbers};
 ghost use Rattle.text.specs.Inner.Numbers.{Found};
 ghost use Rattle.text.specs.Inner.Lines.{Any};

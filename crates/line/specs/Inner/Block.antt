@@ -19,6 +19,10 @@ front run w = record { first = run.first; stride = run.stride; len = run.len; wi
 unfoldable pub places : Run → ℕ → Run
 places run n = record { first = run.first; stride = run.stride; len = n; width = run.width }
 
+-- no wider than the kernels have room for
+abbrev pub IsBlock : Run → Type 0
+IsBlock run = run.width ≤ 4096
+
 -- `next` is a block of at most 4096 lines of the run, from line a on: at least 64, or all that are left.
 pub record Block (run : Run) (a : ℕ) (next : Run) : Type 0 where
   pub lines : next ≡ part run a next.width
