@@ -74,7 +74,7 @@ pub fn set_data(cube: &mut [u8], sh: Shape, from: usize, value: u8) -> Result<()
     Ok(())
 }
 
-// The checks 1 to 4 of a call that is lent a data string and a cube.
+// The checks 1 to 4 of a call that is lent a data string and a cube: both lengths in one test, of which `cube_fits` has one.
 pub fn slices_fit(sh: Shape, capacity: usize, bytes: usize) -> Result<(), Refusal>
     ensures { value_of result ≡ checked (slices_checked sh capacity bytes) }
 {

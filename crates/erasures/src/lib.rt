@@ -65,7 +65,8 @@ pub fn scan_line(flags: &[u8], line: Line) -> MissingPlaces
     look(flags, line)
 }
 
-// Whether every place of a line has a flag: the last one decides. Lengths and strides up to those of a cube keep the product small.
+// Whether every place of a line has a flag: the last one decides, and each test rules out one way for the product to be too large. Lengths and strides
+// up to those of a cube keep the product small.
 fn has_flags(flags: &[u8], line: Line) -> bool
     ensures { Decides (Places flags.now line.first line.stride line.len) result }
 {

@@ -17,7 +17,7 @@ ghost use Rattle.jibrufath.specs.Exports.{uncounted, whole, beside, packed};
 
 use answer::Refusal;
 
-// The word of an answer that carries no count, whatever its result is.
+// The word of an answer that carries no count, whatever its result is. A match as in `size_word`: their counts are two definitions, `uncounted` and `whole`.
 pub(crate) fn answer_word<T: Copy>(answer: Result<T, Refusal>) -> u64
     requires { beside uncounted (value_of answer) < 2 ^ 45 }
     ensures { result ≡ packed uncounted (value_of answer) }

@@ -41,7 +41,8 @@ pub extern "C" fn jibrufath_receive_pack(
     }
 }
 
-// The receiver's counts in their sixteen places. No From: neither `Received` nor an array is this crate's own.
+// The receiver's counts in their sixteen places, an array since C lends one; `as` as in `size_word`. No From: neither `Received` nor an array is this
+// crate's own.
 pub(crate) fn receive_counts(received: Received) -> [u64; 16]
     ensures { result ≡ places (gives (reception_of received.ending)) received.counts }
 {

@@ -18,7 +18,7 @@ pub(crate) fn correct_blocks(s: &mut [u8], reduction: u8, run: Run)
     }
 }
 
-// Most blocks hold codewords alone, and need no more than to be looked at.
+// Most blocks hold codewords alone, and need no more than to be looked at. The room is picked by the width, as the kernel is in `block`.
 fn correct_block(s: &mut [u8], reduction: u8, run: Run)
     requires { (Inside run (length s.old)) × IsBlock run }
     ensures { Corrected reduction run s.old s.new }

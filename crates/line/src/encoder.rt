@@ -50,7 +50,8 @@ fn encode_strip(data: &[u8], s: &mut [u8], reduction: u8, from: Run, to: Run, a:
     strips::combine(s, sums, reduction, target, e);
 }
 
-// Copies the data places of 64 lines, and sums both syndromes of what is copied.
+// Copies the data places of 64 lines, and sums both syndromes of what is copied. Why this loop stands here and in `strips` is said at
+// `strip::Syndromes::step`.
 fn place_strip(data: &[u8], s: &mut [u8], reduction: u8, from: Run, to: Run) -> strip::Syndromes<64>
     requires { (Inside to (length s.old)) × (Feeds from to (length «data».now)) × (to.width ≡ 64) }
     ensures { DataPlaced from to «data».now s.old s.new × Syndromes reduction from «data».now result.first result.second }

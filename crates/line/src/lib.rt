@@ -1,7 +1,7 @@
 // Lines: both syndromes of many neighbouring lines at once, erasures filled in, codewords written and recognised, single errors
 // corrected. Every public function is total, and exact for every reduction byte, which stays a parameter: the laws are over it. A bool says
 // whether the runs lay inside: there is one way to fail, and each caller knows before that they do. A slice and its run stay two parameters: once a
-// method lends the slice that its struct holds, no more than the slice's length is known.
+// method lends the slice that its struct holds, no more than the slice's length is known. So `Inside`, `Feeds` and `Room` name what is asked of both.
 #![tactic(auto)]
 
 mod block;
@@ -24,7 +24,8 @@ pub struct Run {
     pub width: usize,
 }
 
-// The erasures j ≤ k of each line of a run, one erasure where they are equal, with the row [b, d] of the inverted array that gives
+// The erasures j ≤ k of each line of a run, one erasure where they are equal: both are written, the later last, so that no line branches on their number.
+// With them the row [b, d] of the inverted array that gives
 // the byte at k. Only `erasures_at` builds one, of any places: those of a run are told by `solve`. A run and its erasures stay two parameters:
 // in one struct every use of theirs would be longer.
 #[derive(Clone, Copy)]

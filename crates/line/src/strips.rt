@@ -25,7 +25,8 @@ pub(crate) fn codewords(s: &[u8], reduction: u8, run: Run) -> bool
     syndromes(s, reduction, run).all_zero(64)
 }
 
-// Both syndromes of each line, by Horner's rule from the far end. Where the run has fewer than 64 lines, those behind them get some value.
+// Both syndromes of each line, by Horner's rule from the far end. Where the run has fewer than 64 lines, those behind them get some value. Why this loop
+// stands here, in `encoder` and in `rows`, is said at `strip::Syndromes::step`.
 pub(crate) fn syndromes(s: &[u8], reduction: u8, run: Run) -> strip::Syndromes<64>
     requires { Roomy run (length s.now) × (run.width ≤ 64) }
     ensures { Syndromes reduction run s.now result.first result.second }

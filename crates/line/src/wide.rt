@@ -131,7 +131,8 @@ fn one<const N: usize>(
     }
 }
 
-// Writes the bytes at both erasures of each line of a block; the later one last, so that it stands where both are one.
+// Writes the bytes at both erasures of each line of a block; the later one last, so that it stands where both are one. Its twins of `strips` and `narrow`
+// hold both bytes of 64 lines; here no room for those of 4096 is taken.
 pub(crate) fn combine<const N: usize>(
     s: &mut [u8],
     sums: &strip::Syndromes<N>,

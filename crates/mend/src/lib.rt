@@ -48,7 +48,7 @@ fn check_axis(sh: Shape, axis: usize, cube_length: usize) -> Result<(), Refusal>
     Ok(())
 }
 
-// The checks of mending: shape, lengths, then every flag.
+// The checks of mending: shape, lengths, then every flag. `fill` and `peel` compare lengths too, each with what else it is lent.
 fn check(flags: &[u8], cube_length: usize, second_length: usize, sh: Shape) -> Result<(), Refusal>
     ensures { value_of result ≡ checked (mend_checked sh cube_length flags.now second_length) }
 {

@@ -34,7 +34,8 @@ pub fn start_air(out: &mut [u8], sh: Shape, packets: u32) -> Result<Cursor, Refu
     Ok(put_head(out, sh, 5, 0, packets as usize))
 }
 
-// Section 1, section 2 without a file, and the count of section 3.
+// Section 1, section 2 without a file, and the count of section 3. The count of section 1 and the cells in use stay two numbers, as `section_one` has them:
+// with 5 the second is not written.
 pub(crate) fn put_head(
     out: &mut [u8],
     sh: Shape,

@@ -63,7 +63,7 @@ pub(crate) fn size_of(count: usize, packets: usize, w: usize) -> usize
 }
 
 // The three sections. What `requires` says of the header leaves `sent_cells` no refusal, so none is answered. The cube's length stands written out from here
-// on: `IsCube` is of the crate `data`, on which this one does not stand.
+// on: `HeaderSent` says that the shape is valid, and with `IsCube` that would be asked twice.
 fn write_sections(cube: &[u8], out: &mut [u8], h: Header)
     requires { HeaderSent h × (length cube.now ≡ h.shape.w * cells h.shape) × (length out.old ≡ pack_size h) }
     ensures { out.new ≡ air_pack h (sent_packets h cube.now) }

@@ -31,7 +31,7 @@ pub fn peel(cube: &mut [u8], flags: &mut [u8], sh: Shape) -> bool
     true
 }
 
-// Whether cube and flags have the lengths of a valid shape.
+// Whether cube and flags have the lengths of a valid shape. `fill` and `mend` refuse others; here it is a test.
 fn fits(cube: &[u8], flags: &[u8], sh: Shape) -> bool
     ensures { Decides (Sized sh cube.now flags.now) result }
 {

@@ -6,7 +6,8 @@ ghost use Rattle.plan.specs.Calls.{begun};
 
 use plan_form::PlanCounts;
 
-// Whether lists of so many bytes have room for the entries. The counts of a plan that was read are far too small for these products to wrap.
+// Whether lists of so many bytes have room for the entries; a test and no Result, as in `writing`. The counts of a plan that was read are far too small
+// for these products to wrap.
 #[tactic(auto, unfolding(plan_form::specs::Form::plan_end))]
 pub(crate) fn room(n: PlanCounts, closures: usize, fibres: usize, splices: usize) -> bool
     requires { plan_end n ≤ 18446744073709551615 }

@@ -13,7 +13,7 @@ pub(crate) struct Section {
     pub(crate) count: usize,
 }
 
-// A section whose entries of SIZE bytes all stand in `bytes`.
+// A section whose entries of SIZE bytes all stand in `bytes`. No slice of arrays: a refusal names a byte of the file, and `entries` goes by it.
 #[derive(Clone, Copy)]
 pub(crate) struct Entries<'a, const SIZE: usize> {
     pub(crate) bytes: &'a [u8],

@@ -48,7 +48,7 @@ fn in_rank(fibres: &Entries<4>, above: usize, a: usize, b: usize) -> bool
     above <= a && a < b && b < count && closure(fibres, a) == closure(fibres, b)
 }
 
-// The closure of fibre x. No method of `Entries`: of its three sizes one alone has closures and numbers.
+// The closure of fibre x. No method of `Entries`: each asks that the fibre is there, and `fibres`, which goes over them in their order, reads them in place.
 fn closure(fibres: &Entries<4>, x: usize) -> usize
     requires { x < fibres.now.s.count }
     ensures { let f = fibres.now in (result ≡ closure_of (entries f.bytes.now f.s.at) x) × (result < 65536) }

@@ -88,6 +88,7 @@ pub fn append_refused(out: &mut [u8], at: usize, number: u64) -> usize
     append_line(out, at, b"refused ", number)
 }
 
+// One digit; `io::hex` has none of one byte, as is said above.
 fn hex_digit(d: u8) -> u8
     requires { d ≤ 15 }
     ensures { result ≡ Rattle.printing.specs.Text.hex_digit d }

@@ -118,7 +118,8 @@ fn append_report(out: &mut [u8], report: Report) -> usize
     }
 }
 
-// Shape, packets, repeats and cells left, a line each. The line of a shape takes four numbers, since `printing` stands on `io` alone.
+// Shape, packets, repeats and cells left, a line each. `as`, here and below: there is no From of usize for u64. The line of a shape takes four numbers,
+// since `printing` stands on `io` alone.
 fn append_head(out: &mut [u8], report: Report) -> usize
     ensures { Appended out.old 0 (head_lines report) out.new result }
 {

@@ -27,7 +27,7 @@ pub(crate) fn gather(
         return Err(Refusal::Packet(PacketFault::CellIndex, i as u64));
     }
     let counts = placing::place(packets, cube, flags);
-    // Placed flags pass every check of filling: the only refusal that is left is 13.
+    // Placed flags pass every check of filling: the only refusal that is left is 13. By let .. else, as the design asks, so that a file is opened only behind it.
     let Ok(left) = fill::fill(cube, flags, packets.header.shape) else {
         return Err(Refusal::Plain(Fault::Contradiction));
     };

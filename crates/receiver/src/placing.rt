@@ -77,6 +77,8 @@ fn place_new(packets: &Packets, cube: &mut [u8], flags: &mut [u8], from: usize) 
     }
 }
 
+// No `find`: a closure over the lent cube and flags had to say all that the contract says. Cube, flags and packets stay apart in all of these for the reason
+// that `peel` has: once a method lends a slice of its struct, its length alone is known.
 fn place_firsts<const SINGLE: bool>(
     packets: &Packets,
     cube: &mut [u8],

@@ -75,7 +75,8 @@ fn strip_of_rows(s: &[u8], reduction: u8, run: Run, gap: usize) -> bool
     (0..run.width).all(|byte| lanes(s, reduction, moved(run, byte), gap))
 }
 
-// Whether 64 lines are codewords, the first of a run and those `gap` bytes further each: their syndromes stay in registers.
+// Whether 64 lines are codewords, the first of a run and those `gap` bytes further each: their syndromes stay in registers. Why this loop stands here and
+// in `line` is said at `strip::Syndromes::step`.
 fn lanes(s: &[u8], reduction: u8, run: Run, gap: usize) -> bool
     requires { Within run gap (length s.now) }
     ensures { Decides (LanesRight reduction run gap s.now) result }

@@ -8,7 +8,8 @@ ghost use Rattle.strip.specs.Strip.{Step, Products, Sums, AllZero};
 
 use std::array;
 
-// The first and the second syndrome of each of up to N lines.
+// The first and the second syndrome of each of up to N lines. Two arrays, so that a step works on all first and on all second ones at once; room for N,
+// since there is no heap, and the run says how many are in use.
 #[derive(Clone, Copy)]
 pub struct Syndromes<const N: usize> {
     pub first: [u8; N],
@@ -27,7 +28,8 @@ impl<const N: usize> Syndromes<N> {
         }
     }
 
-    // Whether those of the first n lines are 00h: their bytes are joined by or, so that no line costs a branch.
+    // Whether those of the first n lines are 00h: their bytes are joined by or, so that no line costs a branch. Both arrays in one
+    // turn: a fold over a zip of two slices says the same in more words.
     pub fn all_zero(&self, n: usize) -> bool
         ensures { Decides (AllZero n self.now.first self.now.second) result }
     {

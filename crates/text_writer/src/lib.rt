@@ -23,7 +23,7 @@ struct Air<'a> {
     ghost few: { packets.section.count < 4294967296 },
 }
 
-// The bytes of a pack's text.
+// The bytes of a pack's text. `Air` is made here and in `write_text`: a function for both had to promise what its two ghost fields say.
 pub fn text_bytes(air: &[u8]) -> Result<usize, Refusal>
     ensures { value_of result ≡ checked (text_size_checked air.now) }
 {
@@ -145,7 +145,7 @@ impl Air<'_> {
     }
 }
 
-// A space and two digits for each byte, three stores a byte.
+// A space and two digits for each byte, three stores a byte. By index: std does not say what a slice holds once an adapter of `iter_mut` has written it.
 fn append_bytes(text: &mut [u8], at: usize, bytes: &[u8]) -> usize
     requires { at + 3 * length bytes.now ≤ length text.old }
     ensures { Appended text.old at (hex_bytes bytes.now) text.new result }
@@ -170,7 +170,7 @@ fn first_length(sh: Shape) -> usize
         + decimal_length(sh.w)
 }
 
-// How many digits a number of at most four has.
+// How many digits a number of at most four has. `as`: there is no From of u32 for usize.
 fn decimal_length(n: usize) -> usize
     requires { n < 10000 }
     ensures { (result ≡ length (decimal n)) × (result ≤ 4) }

@@ -33,7 +33,8 @@ fn run<R: Read + Drop, W: Write>(alloc: Global, from: R, to: &mut W) -> io::Resu
     to.write_all(&output[..end])
 }
 
-// Puts what the program prints for an input at the start of `output`, and answers where it ends: the slice up to it would keep `output` lent.
+// Puts what the program prints for an input at the start of `output`, and answers where it ends: the slice up to it would keep `output` lent. A Vec's slice
+// becomes an array of 65,536 bytes only by a call that may refuse, so that the lengths are asked here and in `print_pack`.
 fn print(job: &[u8], cube: &mut [u8], output: &mut [u8]) -> usize
     requires { (length cube.old ≡ 65536) × (length output.old ≡ 65536) }
     ensures prefix_len { IsPrefixLen result output.new }
