@@ -2,7 +2,6 @@
 use mathlib.Core.Path.{◌≡◌, refl, sym}
 use mathlib.Core.Bool.{Bool, true, false, cond}
 use Prim.Native.Nat.{ℕ, ◌+◌, ◌*◌, ◌/◌, ◌%◌, ◌≤◌, ◌<◌}
-use native.Mathlib.Nat.{mul-pos}
 use native.Mathlib.Omega.{arith}
 use lib.Dec.{leb, ltb}
 use Rattle.answer.specs.Values.{Checked, passes, fails, check, and_then}
@@ -12,6 +11,7 @@ use Rattle.shape.specs.declared.Sizes.{Sizes}
 use Rattle.shape.specs.declared.Axis.{Axis}
 use Rattle.shape.specs.declared.Line.{Line}
 use Rattle.shape.specs.Shapes.{Valid, IsAxis, within, stride_of, length_of, lines_of, first_of, shape_checked, axis_of, line_in, line_of}
+use Rattle.shape.proofs.Geometry.{stride_of-pos, length_of-high}
 use Rattle.shape.proofs.Valid.{shape-passed, valid-passes, within-parts, within-true, area-le}
 
 -- ---- the numbers of an axis are small
@@ -25,23 +25,14 @@ lines-few sh axis v = by (leb axis 1) (leb axis 2)
     by false true = area-le _ _ v.l1_high v.l3_high
     by false false = area-le _ _ v.l1_high v.l2_high
 
-pub stride-near : (sh : Shape) (axis : ℕ) → Valid sh → (0 < stride_of sh axis) × (stride_of sh axis ≤ 65025)
+pub stride-near : (sh : Shape) (axis : ℕ) → Valid sh → stride_of sh axis ≤ 65025
 unfolding stride_of
 stride-near sh axis v = by (leb axis 1) (leb axis 2)
   where
-    by : (b c : Bool) → (0 < cond b 1 (cond c sh.l1 (sh.l1 * sh.l2))) × (cond b 1 (cond c sh.l1 (sh.l1 * sh.l2)) ≤ 65025)
-    by true c = (omega arith, omega arith)
-    by false true = (omega (arith, v.l1_low), omega (arith, v.l1_high))
-    by false false = (mul-pos (omega (arith, v.l1_low)) (omega (arith, v.l2_low)), area-le _ _ v.l1_high v.l2_high)
-
-pub length-short : (sh : Shape) (axis : ℕ) → Valid sh → length_of sh axis ≤ 255
-unfolding length_of
-length-short sh axis v = by (leb axis 1) (leb axis 2)
-  where
-    by : (b c : Bool) → cond b sh.l1 (cond c sh.l2 sh.l3) ≤ 255
-    by true c = v.l1_high
-    by false true = v.l2_high
-    by false false = v.l3_high
+    by : (b c : Bool) → cond b 1 (cond c sh.l1 (sh.l1 * sh.l2)) ≤ 65025
+    by true c = omega arith
+    by false true = omega (arith, v.l1_high)
+    by false false = area-le _ _ v.l1_high v.l2_high
 
 -- ---- what a call answers for an axis
 
@@ -62,8 +53,7 @@ axis-passed sh axis a e =
 pub axis-small : (sh : Shape) (axis : ℕ) (a : Axis) → axis_of sh axis ≡ passes a → (a.lines ≤ 65025) × (0 < a.stride) × (a.stride ≤ 65025) × (a.len ≤ 255)
 axis-small sh axis a e =
     let (v, on, same) = axis-passed sh axis a e in
-    let (some, near) = stride-near sh axis v in
-    rw same (lines-few sh axis v, some, near, length-short sh axis v)
+    rw same (lines-few sh axis v, stride_of-pos sh axis v, stride-near sh axis v, length_of-high sh axis v)
 
 -- ---- a line is found on an axis that is found
 
