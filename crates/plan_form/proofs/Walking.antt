@@ -6,8 +6,12 @@ use native.Mathlib.Omega.{arith}
 use native.Mathlib.Decide.{dec_lt}
 use borrow.Author.Count.{below_more}
 use Rattle.plan_form.specs.Entries.{Entries, closure_at, ClosureRule, closure_of, fibre_number, Precedes, Listed, FibreRule}
-use Rattle.plan_form.specs.Inner.Checks.{Walked}
+use Rattle.plan_form.specs.Inner.Checks.{FirstKept, Walked}
 use Rattle.plan_form.proofs.Ascending.{closures-ascend}
+
+-- k entries keep their rule, and the next breaks it
+pub stopped : {Rule : ℕ → Type 0} {n k : ℕ} → k < n → ((j : ℕ) → j < k → Rule j) → (Rule k → ⊥) → FirstKept Rule n k
+stopped l before broken = record { bound = omega (arith, l); before = before; here = λ _. broken }
 
 -- k closures keep their rule, and the next may not lie below `least`
 pub record ClosuresRead (C : Entries) (k least : ℕ) : Type 0 where

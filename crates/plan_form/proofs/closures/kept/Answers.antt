@@ -1,14 +1,14 @@
 -- `plan_form::closures::kept` meets its contract.
 use native.Mathlib.Omega.{arith}
 use Rattle.plan_form.specs.Entries.{closure_at}
-use Rattle.plan_form.proofs.Walking.{closure-broken, closures-more}
+use Rattle.plan_form.proofs.Walking.{stopped, closure-broken, closures-more}
 use Rattle.plan_form.proofs.closures.kept.Goals as goal
 
 pub returns-then-number-least : goal.returns-then-number-least
 unfolding closure_at
 returns-then-number-least c =
     let l = c.loop-k in
-    record { bound = omega arith; before = l.invariant.kept; here = λ _. closure-broken _ _ _ l.invariant (omega (arith, c.half-number.ensures)) }
+    stopped (omega arith) l.invariant.kept (closure-broken _ _ _ l.invariant (omega (arith, c.half-number.ensures)))
 
 pub loop-k-preserved : goal.loop-k-preserved
 unfolding closure_at

@@ -2,18 +2,15 @@
 use native.Mathlib.Omega.{arith}
 use Rattle.plan_form.specs.Entries.{closure_of, fibre_number}
 use Rattle.span.proofs.Decision.{decides-false, decides-true}
-use Rattle.plan_form.proofs.Walking.{disordered, walked_here, unlisted, read_more}
+use Rattle.plan_form.proofs.Walking.{stopped, disordered, walked_here, unlisted, read_more}
 use Rattle.plan_form.proofs.fibres.kept.Goals as goal
 
 pub returns-then-not-in_order : goal.returns-then-not-in_order
 unfolding closure_of fibre_number
 returns-then-not-in_order c =
     let l = c.loop-k in
-    record {
-      bound = omega arith;
-      before = l.invariant.kept;
-      here = λ _. disordered _ _ _ _ _ _ l.invariant _ _ c.half-closure.ensures.0 c.half-number.ensures.0 (decides-false c.in_order.ensures c.if-not-in_order.true);
-    }
+    stopped (omega arith) l.invariant.kept
+    (disordered _ _ _ _ _ _ l.invariant _ _ c.half-closure.ensures.0 c.half-number.ensures.0 (decides-false c.in_order.ensures c.if-not-in_order.true))
 
 pub advance-q-requires : goal.advance-q-requires
 unfolding closure_of fibre_number
@@ -25,11 +22,8 @@ pub returns-then-not-listed : goal.returns-then-not-listed
 unfolding closure_of fibre_number
 returns-then-not-listed c =
     let l = c.loop-k in
-    record {
-      bound = omega arith;
-      before = l.invariant.kept;
-      here = λ _. unlisted _ _ _ _ _ _ l.invariant _ _ c.half-closure.ensures.0 c.half-number.ensures.0 (decides-false c.listed.ensures c.if-not-listed.true);
-    }
+    stopped (omega arith) l.invariant.kept
+    (unlisted _ _ _ _ _ _ l.invariant _ _ c.half-closure.ensures.0 c.half-number.ensures.0 (decides-false c.listed.ensures c.if-not-listed.true))
 
 pub loop-k-preserved : goal.loop-k-preserved
 unfolding closure_of fibre_number

@@ -5,6 +5,7 @@ use mathlib.Core.Path.{◌≡◌, refl}
 use Rattle.span.proofs.Decision.{decides-false, decides-true, decides-false}
 use Rattle.plan_form.specs.Entries.{first_of, second_of}
 use Rattle.plan_form.proofs.Joined.{marks-none, out-of-rank, joined-twice, spliced, marks-next}
+use Rattle.plan_form.proofs.Walking.{stopped}
 use Rattle.plan_form.proofs.splices.kept.Goals as goal
 use Rattle.plan_form.proofs.splices.kept.Goals.{then-not-in_rank-via-then-not-in_rank, then-not-in_rank-via-else-not-in_rank+then-either}
 
@@ -15,17 +16,14 @@ pub returns-then-not-in_rank : goal.returns-then-not-in_rank
 unfolding first_of second_of
 returns-then-not-in_rank c =
     let l = c.loop-k in
-    record {
-      bound = omega arith;
-      before = l.invariant.1;
-      here = λ _. elim c.then-not-in_rank.branch [
-        | then-not-in_rank-via-then-not-in_rank w ↦
-            out-of-rank _ _ _ c.requires _ _ _ l.invariant.2 _ _ c.word-a.ensures.0 c.word-b.ensures.0 (decides-false c.in_rank.ensures w.if-not-in_rank.true)
-        | then-not-in_rank-via-else-not-in_rank+then-either w ↦
-            joined-twice _ _ _ c.requires _ _ _ l.invariant.2 _ _ c.word-a.ensures.0 c.word-b.ensures.0
-            (decides-true c.in_rank.ensures w.if-not-in_rank.false) (rw l.invariant.0 at (w.either.ensures.yes_then w.if-either.true))
-      ];
-    }
+    stopped (omega arith) l.invariant.1
+    (elim c.then-not-in_rank.branch [
+      | then-not-in_rank-via-then-not-in_rank w ↦
+          out-of-rank _ _ _ c.requires _ _ _ l.invariant.2 _ _ c.word-a.ensures.0 c.word-b.ensures.0 (decides-false c.in_rank.ensures w.if-not-in_rank.true)
+      | then-not-in_rank-via-else-not-in_rank+then-either w ↦
+          joined-twice _ _ _ c.requires _ _ _ l.invariant.2 _ _ c.word-a.ensures.0 c.word-b.ensures.0
+          (decides-true c.in_rank.ensures w.if-not-in_rank.false) (rw l.invariant.0 at (w.either.ensures.yes_then w.if-either.true))
+    ])
 
 pub loop-k-preserved : goal.loop-k-preserved
 unfolding first_of second_of
