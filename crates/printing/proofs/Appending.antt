@@ -34,6 +34,13 @@ append-paste b at t k h e =
       kept = drop-paste b at t k h (omega arith);
     }
 
+-- so many bytes of the text fit
+pub count_fits : (b t : List ℕ) (at k : ℕ) → at ≤ length b → k ≡ min (length t) (length b - at) → (k ≤ length t) × (at + k ≤ length b)
+count_fits b t at k h e =
+    let l = min-le_left (length t) (length b - at) in
+    let r = min-le_right (length t) (length b - at) in
+    (omega arith, omega arith)
+
 -- one byte more
 pub paste_more : (b : List ℕ) (at : ℕ) (t a : List ℕ) (i : ℕ) → a ≡ paste b at t i → at + i < length b → i < length t
     → set a (at + i) (get_or t i 0) ≡ paste b at t (i + 1)

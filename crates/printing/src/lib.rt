@@ -20,9 +20,11 @@ pub fn append(out: &mut [u8], at: usize, bytes: &[u8]) -> usize
         return room;
     }
     let count = bytes.len().min(room - at);
-    let end = at + count;
-    out[at..end].copy_from_slice(&bytes[..count]);
-    end
+    // One by one: `copy_from_slice` is a call of memmove, which an archive asks nobody for.
+    for i in 0..count {
+        out[at + i] = bytes[i];
+    }
+    at + count
 }
 
 // The decimal digits of a number, without leading zeros: `io::decimal` fills 20 places from the front, and says how many it has used.

@@ -19,13 +19,12 @@ pub fn copy(src: &[u8], dst: &mut [u8], from: usize, to: usize, n: usize) -> boo
     if part(dst, to, n).is_none() {
         return false;
     }
-    // Below four bytes the call for a longer copy costs twice as much.
-    if n < 4 {
+    if n < 16 {
         for i in 0..n {
             dst[to + i] = src[i];
         }
     } else {
-        dst[to..to + n].copy_from_slice(src);
+        pieces(src, dst, to);
     }
     true
 }
@@ -90,6 +89,19 @@ fn part(s: &[u8], at: usize, n: usize) -> Option<&[u8]>
     ensures { MatchOption result (length s.now < at + n) (λ p. (at + n ≤ length s.now) × (p.now ≡ take n (drop at s.now))) }
 {
     s.get(at..)?.get(..n)
+}
+
+// 16 bytes at a time, by value, so that the compiler need not know whether the slices overlap. It writes larger pieces from the far end
+// to the near one, which costs a quarter more. The last piece may reach back over bytes that are copied already.
+fn pieces(src: &[u8], dst: &mut [u8], to: usize)
+    requires { (16 ≤ length src.now) × (to + length src.now ≤ length dst.old) }
+    ensures { Copied src.now 0 dst.old to (length src.now) dst.new }
+{
+    let last = src.len() - 16;
+    for i in (0..last).step_by(16) {
+        put(dst, to + i, taken(src, i));
+    }
+    put(dst, to + last, taken(src, last));
 }
 
 // 16 bytes at a time, by value, so that the compiler keeps them in registers: each piece is read once, and put in the slice and in the
