@@ -174,15 +174,20 @@ module _ (r : ℕ) (sh : Shape) (xs fs zs ys gs : List ℕ) (done : flags_checke
       ⊎_elim (λ (e : is_marked gs n ≡ true). m.marks n (omega (arith, m.size)) e ∙ sym (filled-then n e))
       (λ (e : is_marked gs n ≡ false). m.others n e ∙ kept_then n e) (true-or-false (is_marked gs n)))
 
-  pub contradiction-outcome : (AllRight r sh ys gs → ⊥) → (hs : List ℕ) → Remarked 1 gs hs → (ws : List ℕ) → Cleared sh ys (missing hs) ws
-      → FillOutcome r sh xs fs ws hs (fill_value (Err (Plain Contradiction)))
-  unfolding fill_value refusal fault_number
-  contradiction-outcome wrong hs m ws d =
-      let same : hs ≡ fs = restored-flags hs m in
-      let e : Cleared sh ys (missing fs) ws = rw same at d in
-      fill_contradiction done (missing gs) peeled-largest (λ v f. wrong (filling-right v f))
-      (record {
-        size = e.size ∙ p.reaches.size ∙ c.size;
-        known = λ n w l b k. e.known n w l b k ∙ peeled-known n w l b k;
-        missing = e.missing;
-      }) same
+  module _ (ws : List ℕ) (d : Cleared sh ys (is_marked gs) ws) where
+    restored-known : (n w : ℕ) → n < cells sh → w < sh.w → missing fs n ≡ false → layer sh ws w n ≡ layer sh xs w n
+    restored-known n w l b e =
+        ⊎_elim (λ (k : is_marked gs n ≡ true). absurd (true≢false (sym (missing-one fs n (filled-then n k)) ∙ e)))
+        (λ (k : is_marked gs n ≡ false). d.known n w l b k ∙ peeled-known n w l b e) (true-or-false (is_marked gs n))
+
+    restored-missing : (n w : ℕ) → n < cells sh → w < sh.w → missing fs n ≡ true → layer sh ws w n ≡ 0
+    restored-missing n w l b e =
+        ⊎_elim (λ (k : is_marked gs n ≡ true). d.missing n w l b k)
+        (λ (k : is_marked gs n ≡ false). d.known n w l b k ∙ peeled-left n w l b (missing-cong fs gs n (kept_then n k) ∙ e))
+        (true-or-false (is_marked gs n))
+
+    pub contradiction-outcome : (AllRight r sh ys gs → ⊥) → (hs : List ℕ) → Remarked 1 gs hs → FillOutcome r sh xs fs ws hs (fill_value (Err (Plain Contradiction)))
+    unfolding fill_value refusal fault_number
+    contradiction-outcome wrong hs m =
+        fill_contradiction done (missing gs) peeled-largest (λ v f. wrong (filling-right v f))
+        (record { size = d.size ∙ p.reaches.size ∙ c.size; known = restored-known; missing = restored-missing }) (restored-flags hs m)

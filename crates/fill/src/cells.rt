@@ -5,7 +5,7 @@ ghost use Rattle.stopping.specs.Stopping.{number};
 ghost use Rattle.shape.specs.Flags.{missing};
 ghost use Rattle.peel.specs.Peel.{Sized};
 ghost use Rattle.fill.specs.Fill.{Cleared};
-ghost use Rattle.shape.specs.Inner.Marks.{Remarked};
+ghost use Rattle.shape.specs.Inner.Marks.{is_marked, Remarked};
 
 use shape::Shape;
 use shape::flags::{KNOWN, MARKED, MISSING};
@@ -23,32 +23,35 @@ pub(crate) fn clear_missing(cube: &mut [u8], flags: &[u8], sh: Shape)
     }
 }
 
-// After a filling: filled cells are known, and the answer is how many are left.
+// After a filling: filled cells are known, and the answer is how many are left. In one turn, and no `filter` with `count`, whose branch on each flag
+// took half as long again where a third of them is 1.
 pub(crate) fn settle(flags: &mut [u8]) -> usize
     ensures remarked { Remarked 0 flags.old flags.new }
     ensures value { result ≡ number (missing flags.new) (length flags.old) }
 {
-    remark(flags, KNOWN);
-    flags.iter().filter(|flag| **flag == MISSING).count()
-}
-
-// After a contradiction: filled cells are missing again, and every missing cell is cleared.
-pub(crate) fn restore(cube: &mut [u8], flags: &mut [u8], sh: Shape)
-    requires { Sized sh cube.old flags.old }
-    ensures cleared { Cleared sh cube.old (missing flags.new) cube.new }
-    ensures remarked { Remarked 1 flags.old flags.new }
-{
-    remark(flags, MISSING);
-    clear_missing(cube, flags, sh);
-}
-
-// Gives every filled cell this flag.
-fn remark(flags: &mut [u8], v: u8)
-    ensures { Remarked v flags.old flags.new }
-{
+    let mut left = 0;
     for flag in flags.iter_mut() {
         if *flag == MARKED {
-            *flag = v;
+            *flag = KNOWN;
+        }
+        if *flag == MISSING {
+            left += 1;
+        }
+    }
+    left
+}
+
+// After a contradiction: filled cells are missing again, and cleared. Those that are left were cleared before.
+pub(crate) fn restore(cube: &mut [u8], flags: &mut [u8], sh: Shape)
+    requires { Sized sh cube.old flags.old }
+    ensures cleared { Cleared sh cube.old (is_marked flags.old) cube.new }
+    ensures remarked { Remarked 1 flags.old flags.new }
+{
+    let w = sh.w;
+    for (n, mark) in flags.iter_mut().enumerate() {
+        if *mark == MARKED {
+            *mark = MISSING;
+            span::set(cube, n * w, w, 0);
         }
     }
 }

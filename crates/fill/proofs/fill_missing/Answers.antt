@@ -36,4 +36,4 @@ returns-then-verify c =
 pub returns-else-verify : goal.returns-else-verify
 returns-else-verify c =
     contradiction-outcome _ _ _ _ _ _ _ c.requires c.clear_missing.ensures (peeled (goal.at.returns-else-verify c).After-peel)
-    (decides-false c.verify.ensures c.if-verify.false) _ c.restore.ensures.remarked _ c.restore.ensures.cleared
+    _ c.restore.ensures.cleared (decides-false c.verify.ensures c.if-verify.false) _ c.restore.ensures.remarked
