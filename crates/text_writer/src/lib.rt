@@ -170,10 +170,15 @@ fn first_length(sh: Shape) -> usize
         + decimal_length(sh.w)
 }
 
-// How many digits a number of at most four has. `as`: there is no From of u32 for usize.
+// How many digits a number of at most four has. By comparisons: by `checked_ilog10` the length of a text took half as long again.
 fn decimal_length(n: usize) -> usize
     requires { n < 10000 }
     ensures { (result ≡ length (decimal n)) × (result ≤ 4) }
 {
-    n.checked_ilog10().map_or(1, |k| k as usize + 1)
+    match n {
+        0..=9 => 1,
+        10..=99 => 2,
+        100..=999 => 3,
+        _ => 4,
+    }
 }
