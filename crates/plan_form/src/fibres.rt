@@ -1,7 +1,7 @@
 // The rules of fibres: numbers 1 to 288, strictly ascending pairs, listed closures.
-ghost use Rattle.std.specs.Prelude.{ℕ, ◌+◌, ◌≤◌, ◌<◌};
+ghost use Rattle.std.specs.Prelude.{ℕ, ◌+◌, ◌≤◌, ◌<◌, MatchOption};
 ghost use Rattle.span.specs.Decision.{Decides};
-ghost use Rattle.plan_form.specs.Entries.{entries, closure_at, ClosureRule, Listed, FibreRule};
+ghost use Rattle.plan_form.specs.Entries.{entries, ClosureRule, Listed, FibreRule};
 ghost use Rattle.plan_form.specs.Inner.Checks.{FirstKept, Walked};
 
 use crate::numbers::half;
@@ -22,10 +22,10 @@ pub(crate) fn kept(closures: &Entries<2>, fibres: &Entries<4>) -> usize
         if !in_order(number, pair, least) {
             return k;
         }
-        q = advance(closures, q, closure);
-        if !listed(closures, q, closure) {
+        let Some(next) = find(closures, q, closure) else {
             return k;
-        }
+        };
+        q = next;
         least = pair + 1;
     }
     fibres.s.count
@@ -38,25 +38,19 @@ fn in_order(number: usize, pair: usize, least: usize) -> bool
     (1..=288).contains(&number) && least <= pair
 }
 
-// Where the walk through the closures stands once it has passed those below the number sought, at most behind the last. A place, from which the
-// next fibre's walk goes on; a loop and no `find`, whose none would have to be turned back to the place behind the last.
-fn advance(closures: &Entries<2>, q: usize, sought: usize) -> usize
-    requires { let c = closures.now in Walked (entries c.bytes.now c.s.at) c.s.count sought q }
-    ensures { let c = closures.now in Walked (entries c.bytes.now c.s.at) c.s.count sought result × ((result < c.s.count) → sought ≤ closure_at (entries c.bytes.now c.s.at) result) }
+// Where the closure sought stands among those from q on, or None where it is not listed: the first that is not below it is the one, or there is none.
+// A loop and no `find` of the library, which would read that closure once more.
+fn find(closures: &Entries<2>, q: usize, sought: usize) -> Option<usize>
+    requires { let c = closures.now in Walked (entries c.bytes.now c.s.at) c.s.count sought q
+        × ((k : ℕ) → k < c.s.count → ClosureRule (entries c.bytes.now c.s.at) k) }
+    ensures { let c = closures.now in MatchOption result (Listed (entries c.bytes.now c.s.at) c.s.count sought → ⊥)
+        (λ r. Listed (entries c.bytes.now c.s.at) c.s.count sought × Walked (entries c.bytes.now c.s.at) c.s.count sought r) }
 {
     for r in q..closures.s.count {
-        if sought <= half(closures.bytes, closures.s.at + 2 * r) {
-            return r;
+        let closure = half(closures.bytes, closures.s.at + 2 * r);
+        if sought <= closure {
+            return if closure == sought { Some(r) } else { None };
         }
     }
-    closures.s.count
-}
-
-// Whether the closure sought is the one at q.
-fn listed(closures: &Entries<2>, q: usize, sought: usize) -> bool
-    requires { let c = closures.now in Walked (entries c.bytes.now c.s.at) c.s.count sought q × ((q < c.s.count) → sought ≤ closure_at (entries c.bytes.now c.s.at) q)
-        × ((k : ℕ) → k < c.s.count → ClosureRule (entries c.bytes.now c.s.at) k) }
-    ensures { let c = closures.now in Decides (Listed (entries c.bytes.now c.s.at) c.s.count sought) result }
-{
-    q < closures.s.count && half(closures.bytes, closures.s.at + 2 * q) == sought
+    None
 }

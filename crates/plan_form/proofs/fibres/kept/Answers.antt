@@ -12,21 +12,21 @@ returns-then-not-in_order c =
     stopped (omega arith) l.invariant.kept
     (disordered _ _ _ _ _ _ l.invariant _ _ c.half-closure.ensures.0 c.half-number.ensures.0 (decides-false c.in_order.ensures c.if-not-in_order.true))
 
-pub advance-q-requires : goal.advance-q-requires
+pub find-requires : goal.find-requires
 unfolding closure_of fibre_number
-advance-q-requires c =
+find-requires c =
     let l = c.loop-k in
-    walked_here _ _ _ _ _ _ l.invariant _ _ c.half-closure.ensures.0 c.half-number.ensures.0 (decides-true c.in_order.ensures c.if-not-in_order.false)
+    (walked_here _ _ _ _ _ _ l.invariant _ _ c.half-closure.ensures.0 c.half-number.ensures.0 (decides-true c.in_order.ensures c.if-not-in_order.false), c.requires)
 
-pub returns-then-not-listed : goal.returns-then-not-listed
+pub returns-in_default : goal.returns-in_default
 unfolding closure_of fibre_number
-returns-then-not-listed c =
+returns-in_default c =
     let l = c.loop-k in
     stopped (omega arith) l.invariant.kept
-    (unlisted _ _ _ _ _ _ l.invariant _ _ c.half-closure.ensures.0 c.half-number.ensures.0 (decides-false c.listed.ensures c.if-not-listed.true))
+    (unlisted _ _ _ _ _ _ l.invariant _ _ c.half-closure.ensures.0 c.half-number.ensures.0 c.in_default.ensures)
 
 pub loop-k-preserved : goal.loop-k-preserved
 unfolding closure_of fibre_number
 loop-k-preserved c =
     read_more _ _ _ _ _ _ c.loop-k.invariant _ _ c.half-closure.ensures.0 c.half-number.ensures.0
-    (decides-true c.in_order.ensures c.if-not-in_order.false) (decides-true c.listed.ensures c.if-not-listed.false) _ c.advance-q.ensures.0
+    (decides-true c.in_order.ensures c.if-not-in_order.false) c.in-Some.ensures.0 _ c.in-Some.ensures.1
