@@ -48,7 +48,7 @@ unfolding packed number_of beside whole cells_left value_of fill_value
 fill-packed (Ok n) = refl
 fill-packed (Err f) = rw (refusal-number ℕ f, refusal-number CellsLeft f, refusal-beside whole f, refusal-beside cells_left f)
 
-fill-places : {r : ℕ} {sh : Shape} {xs fs xs' fs' : List ℕ} {v : Value CellsLeft} (f : Refusal) → FillOutcome r sh xs fs xs' fs' v → v ≡ refusal f
+pub fill-places : {r : ℕ} {sh : Shape} {xs fs xs' fs' : List ℕ} {v : Value CellsLeft} (f : Refusal) → FillOutcome r sh xs fs xs' fs' v → v ≡ refusal f
     → beside cells_left v ≡ 0
 unfolding beside
 fill-places f (FillOutcome.fill_refused _ _ _ _) e = refl

@@ -43,7 +43,7 @@ module _ (sh : Shape) (v : Valid sh) (q : ℕ) (inside : q < sh.l2 * sh.l3) wher
   two : 0 < sh.l2
   two = omega (arith, v.l2_low)
 
-  row-second : q % sh.l2 < sh.l2
+  pub row-second : q % sh.l2 < sh.l2
   row-second = mod-lt q two
 
   -- place a of row q

@@ -38,7 +38,7 @@ module _ (sh : Shape) (xs fs : List ℕ) where
     unfolding sizes
     sized-flags s = s.flags ∙ sym (ap (λ (y : Sizes). y.cells) same)
 
-  refused-unsized : (m : Result Sizes Refusal) (f : Refusal) → value_of m ≡ checked (shape_checked sh) → m ≡ Err f → Sized sh xs fs → ⊥
+  pub refused-unsized : (m : Result Sizes Refusal) (f : Refusal) → value_of m ≡ checked (shape_checked sh) → m ≡ Err f → Sized sh xs fs → ⊥
   unfolding checked
   refused-unsized m f e p s = refusal-gives f (sizes sh) (value-refused m _ f e p ∙ ap checked (valid-passes sh s.valid))
 

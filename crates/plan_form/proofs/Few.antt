@@ -1,15 +1,10 @@
 -- A plan has few entries: closures are numbers of two bytes and ascend, pairs of two such numbers too, and each splice has a first fibre of its own.
 use mathlib.Core.Path.{◌≡◌}
-use mathlib.Core.List.{List}
 use mathlib.Core.Logic.{inl, inr}
 use Prim.Native.Nat.{ℕ, zero, suc, ◌+◌, ◌-◌, ◌*◌, ◌≤◌, ◌<◌}
 use native.Mathlib.Omega.{arith}
-use Rattle.plan_form.specs.Entries.{Bytes, half, Entries, closure_at, ClosureRule, closure_of, fibre_number, Precedes, FibreRule, first_of, SpliceRule}
-
--- numbers of two bytes are below 65,536
-half_lt : (xs : List ℕ) (at : ℕ) → Bytes xs → half xs at < 65536
-unfolding half
-half_lt xs at small = omega (arith, small at, small (at + 1))
+use Rattle.plan_form.specs.Entries.{Bytes, Entries, closure_at, ClosureRule, closure_of, fibre_number, Precedes, FibreRule, first_of, SpliceRule}
+use Rattle.plan_form.proofs.Halves.{half_lt}
 
 -- what ascends from one to the next has risen to k at k
 ascending-high : (f : ℕ → ℕ) (k : ℕ) → ((j : ℕ) → 0 < j → j < suc k → f (j - 1) < f j) → k ≤ f k

@@ -26,7 +26,7 @@ use Rattle.pack.specs.declared.Header.{Header}
 use Rattle.pack.specs.Packs.{unsent}
 use Rattle.pack.specs.Packets.{Source}
 use Rattle.receiver.specs.Placing.{among, repeats_of, agreed, conflicting, conflicts_of, flag_at, Placed}
-use Rattle.receiver.specs.Inner.Placing.{mark_at, Marked, Arrived, Tried, Run}
+use Rattle.receiver.specs.Inner.Placing.{mark_at, Marked, Arrived, Tried, Run, Stops}
 use Rattle.receiver.proofs.Copies.{among-earlier, among_same, among-other, earlier-among, agreed-none, conflict-then, equal-conflict, agreed-other, agreed-more, agreed-differs, agreed-never}
 
 -- ---- flags and marks
@@ -288,6 +288,14 @@ module _ (h : Header) (s : Source) (n i : ℕ) (adds : ℕ) where
         marked = a.marked;
         repeats = rw (more, suc-mul (j - i) adds) (omega (arith, a.repeats, r.repeats));
       }
+
+-- a run of repeats from a repeat on is not empty
+pub run-moves : (h : Header) (s : Source) (n i j adds : ℕ) (xs fs : List ℕ) → Run h s n i j xs fs adds → i < n → Stops s n i true → Stops s n j false → i < j
+run-moves h s n i j adds xs fs r l repeat first =
+    elim (ℕ_discrete i j) [
+      | yes e ↦ absurd (true≢false (sym (repeat l) ∙ ap (λ (k : ℕ). among s k (s.place k)) e ∙ first (omega arith)))
+      | no ne ↦ omega (arith, r.low)
+    ]
 
 -- ---- all packets placed
 
