@@ -27,7 +27,7 @@
  *   268,435,456 in all, and 255 by 255 by 255 of 16.
  *
  *   The stack that a call takes does not grow with the shape. Measured on the shapes of examples/c/stack.c, the most on x86-64 was
- *   34.8 kB in fill, receive_pack and receive_plan, 9.8 kB in encode, is_code_cube and write_pack, 17.2 kB in mend and mend_axis, 3.8 kB
+ *   35.1 kB in fill, receive_pack and receive_plan, 10.0 kB in encode, is_code_cube and write_pack, 17.3 kB in mend and mend_axis, 0.9 kB
  *   in write_text, below 3 kB in the other calls on plans, and 0.7 kB in all others. 40 kB, 12 kB, 20 kB, 5 kB, 4 kB and 1 kB are a safe
  *   reserve; a test holds the calls to these, there and on the other processors of targets/. The wasm32 module has a stack of 65,536
  *   bytes of its own.
